@@ -1,0 +1,4 @@
+pub mod Bits
+pub mod Keys
+pub mod Versions
+pub mod Vectors

@@ -1,0 +1,6 @@
+pub mod Tests
+pub mod Only
+pub mod Stores
+pub mod Count
+pub mod Once
+pub mod Put
