@@ -1,0 +1,9 @@
+// The dense table on paper: its calls as definitions, what sound means, what a list of calls says of the keys, and the theorems over them.
+// The only code is the header that the calls take and give back.
+
+// The three numbers of a table: elements, slots, and the slot that the next insert takes.
+pub struct Header {
+    pub n: u32,
+    pub s: u32,
+    pub f: u32,
+}
