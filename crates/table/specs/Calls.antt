@@ -37,17 +37,21 @@ on t (fails r) accept = (refused r, t)
 
 -- ---- fresh
 
--- "slot 0 gets version 0, link 0; n=0, s=1, f=1; nothing else is written"
-unfoldable pub freshTable : List ℕ → List ℕ → List ℕ → List ℕ → Table
-freshTable vs ls ks xs =
-    record { versions = set vs 0 0; links = set ls 0 0; keys = ks; values = xs; head = record { n = 0; s = 1; f = 1 } }
+-- how a table begins: with a header; or the number of the refusal
+pub data Begun : Type 0 where
+  begins : Header → Begun
+  cannot : ℕ → Begun
 
--- "fresh and rebuild judge only the array lengths under 1": there is no header before, so a refusal hands back the one it was given
-unfoldable pub fresh : Table → Out
-fresh t =
-    cond (lengthsFit (t .versions) (t .links) (t .keys) (t .values))
-    (said-done, freshTable (t .versions) (t .links) (t .keys) (t .values))
-    (refused 1, t)
+-- "slot 0 gets version 0, link 0; n=0, s=1, f=1; nothing else is written"
+abbrev pub freshHead : Header
+freshHead = record { n = 0; s = 1; f = 1 }
+
+unfoldable pub freshTable : List ℕ → List ℕ → List ℕ → List ℕ → Table
+freshTable vs ls ks xs = record { versions = set vs 0 0; links = set ls 0 0; keys = ks; values = xs; head = freshHead }
+
+-- the answer, and the versions and links after it: "fresh and rebuild judge only the array lengths under 1"
+unfoldable pub fresh : List ℕ → List ℕ → List ℕ → List ℕ → Begun × (List ℕ × List ℕ)
+fresh vs ls ks xs = cond (lengthsFit vs ls ks xs) (begins freshHead, (set vs 0 0, set ls 0 0)) (cannot 1, (vs, ls))
 
 -- ---- calls that only look
 
