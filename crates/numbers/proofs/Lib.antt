@@ -1,0 +1,8 @@
+pub mod Numbers
+pub mod Encoded
+pub mod Writing
+pub mod Reading
+pub mod Bounds
+pub mod Words
+pub mod Outcomes
+pub mod Vectors
