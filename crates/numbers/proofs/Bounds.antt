@@ -12,7 +12,7 @@ use Rattle.numbers.specs.Told.{Told, tells, refused}
 use Rattle.numbers.specs.declared.Partial.{Partial}
 use Rattle.numbers.specs.Numbers.{Step, whole, more, worth, takeOf, stepped, readFrom, numberAt, unread}
 use Rattle.numbers.proofs.Numbers.{part, by-byte, or}
-use Rattle.numbers.proofs.Reading.{never, told}
+use Rattle.numbers.proofs.Told.{never, told, refused-same, both}
 
 -- ---- an accepted number
 
@@ -21,7 +21,7 @@ unfolding readFrom
 accepted limit [] w g at v n = never
 accepted limit (b ∷ s) w g at v n =
     by-byte limit w g b at s (λ r. r ≡ tells (v, n) → (v ≤ limit) × ((at < n) × (n ≤ at + suc (length s)))) (λ l e. never e) (λ l h e. never e)
-    (λ l h i e. let t = told e in (omega (arith, t .0), (omega (arith, t .1), omega (arith, t .1))))
+    (λ l h i e. let t = both (told e) in (omega (arith, t .0), (omega (arith, t .1), omega (arith, t .1))))
     (λ l h i e. let t = accepted limit s (w + b % 128 * worth g) (g + 1) (at + 1) v n e in (t .0, (omega (arith, t .1 .0), omega (arith, t .1 .1))))
 
 module _ (bits : ℕ) (s : List ℕ) (at v n : ℕ) (e : numberAt bits s at ≡ tells (v, n)) where
@@ -42,14 +42,11 @@ module _ (bits : ℕ) (s : List ℕ) (at v n : ℕ) (e : numberAt bits s at ≡ 
 
 -- ---- the refusals
 
-refused-only : {k j : ℕ} → _≡_ {A = Told (ℕ × ℕ)} (refused j) (refused k) → j ≡ k
-refused-only e = cc
-
 refusals : (limit : ℕ) (s : List ℕ) (w g at k : ℕ) → readFrom limit s at (part w g) ≡ refused k → (k ≡ 10) ⊎ (k ≡ 11)
 unfolding readFrom
-refusals limit [] w g at k = λ e. inl (sym (refused-only e))
+refusals limit [] w g at k = λ e. inl (sym (refused-same e))
 refusals limit (b ∷ s) w g at k =
-    by-byte limit w g b at s (λ r. r ≡ refused k → (k ≡ 10) ⊎ (k ≡ 11)) (λ l e. inr (sym (refused-only e))) (λ l h e. inr (sym (refused-only e)))
+    by-byte limit w g b at s (λ r. r ≡ refused k → (k ≡ 10) ⊎ (k ≡ 11)) (λ l e. inr (sym (refused-same e))) (λ l h e. inr (sym (refused-same e)))
     (λ l h i e. never (sym e)) (λ l h i e. refusals limit s (w + b % 128 * worth g) (g + 1) (at + 1) k e)
 
 -- a number is refused with 10 or 11 only
@@ -80,7 +77,7 @@ number-longer bits s t at =
 
 -- so 11 stays 11, and a number stays that number, whatever follows
 pub form-stays : (bits : ℕ) (s t : List ℕ) (at : ℕ) → numberAt bits s at ≡ refused 11 → numberAt bits (s ++ t) at ≡ refused 11
-form-stays bits s t at e = ⊎-elim (λ h. let z : _≡_ {A = ℕ} 10 11 = refused-only (sym h ∙ e) in absurd (omega arith)) (λ h. h ∙ e) (number-longer bits s t at)
+form-stays bits s t at e = ⊎-elim (λ h. let z : _≡_ {A = ℕ} 10 11 = refused-same (sym h ∙ e) in absurd (omega arith)) (λ h. h ∙ e) (number-longer bits s t at)
 
 pub number-stays : (bits : ℕ) (s t : List ℕ) (at v n : ℕ) → numberAt bits s at ≡ tells (v, n) → numberAt bits (s ++ t) at ≡ tells (v, n)
 number-stays bits s t at v n e = ⊎-elim (λ h. never (sym h ∙ e)) (λ h. h ∙ e) (number-longer bits s t at)

@@ -9,8 +9,8 @@ use lib.ListN.{length, set}
 use borrow.Author.Tests.{lt-ltb, le-ltb}
 use Rattle.lists.specs.Put.{put}
 use Rattle.lists.proofs.Put.{put-nil, put-cons}
-use Rattle.numbers.specs.Numbers.{groupsOf, encoded}
-use Rattle.numbers.proofs.Numbers.{or}
+use Rattle.numbers.specs.Numbers.{worth, groupsOf, encoded}
+use Rattle.numbers.proofs.Numbers.{or, worth-next}
 
 -- ---- one group, and the rest
 
@@ -46,6 +46,14 @@ length-last n h = ap length (encoded-last n h)
 
 pub length-more : (n : ℕ) → 128 ≤ n → length (encoded n) ≡ length (encoded (n / 128)) + 1
 length-more n h = ap length (encoded-more n h) ∙ sym (add-one (length (encoded (n / 128))))
+
+-- a number below the worth of k groups has k at most: five for 32 bits, ten for 64
+pub length-bound : (k n : ℕ) → n < worth (suc k) → length (encoded n) ≤ suc k
+length-bound zero n h = omega (arith, length-last n h)
+length-bound (suc k) n h =
+    ⊎-elim (λ l. omega (arith, length-last n l))
+    (λ g. omega (arith, length-more n g, length-bound k (n / 128) (omega (arith, rw (add-one (suc k)) at (worth-next (suc k))))))
+    (or n 128)
 
 -- ---- put into a buffer: the first byte is stored, and then the rest
 

@@ -7,8 +7,9 @@ use native.Mathlib.Nat.{mul-le-mul-right}
 use native.Mathlib.Omega.{arith}
 use lib.ListN.{length, drop}
 use lib.Seq.{drop-append-seam, drop-drop, getD-drop}
-use Rattle.numbers.specs.Told.{Told, tells, refused}
+use Rattle.numbers.specs.Told.{Told, tells}
 use Rattle.numbers.specs.Numbers.{worth, least, readFrom, numberAt, groupsOf, encoded, Bytes}
+use Rattle.numbers.proofs.Told.{never, told, both}
 use Rattle.numbers.proofs.Numbers.{part, worth-next, least-small, least-next, regroup, read-last, read-more, by-byte, or}
 use Rattle.numbers.proofs.Encoded.{groups-last, groups-more, encoded-last, encoded-more}
 
@@ -39,14 +40,22 @@ groups-back limit (suc k) x v g at s f l h =
     (omega (arith, regroup x (worth g), ap (λ (y : ℕ). x / 128 * y) (worth-next g))))))
     (or x 128)
 
--- at any width, after any bytes and before any others, the shortest form of n reads as n, and the place is the one after it
+-- at any width, where the bytes go on with the shortest form of n, n is read, and the place is the one after it
+pub decode-at : (bits n : ℕ) (s rest : List ℕ) (at : ℕ) → n < 2 ^ bits → drop at s ≡ encoded n ++ rest
+    → (numberAt bits s at ≡ tells (n, at + length (encoded n))) × (drop (at + length (encoded n)) s ≡ rest)
+unfolding numberAt encoded
+decode-at bits n s rest at h e = (
+  ap (λ (t : List ℕ). readFrom (2 ^ bits - 1) t at (part 0 0)) e
+      ∙ groups-back (2 ^ bits - 1) (suc n) n 0 0 at rest (omega arith) (omega arith) (omega arith)
+      ∙ ap (λ (v : ℕ). tells (v, at + length (groupsOf (suc n) n))) (omega arith),
+  sym (drop-drop (length (groupsOf (suc n) n)) at s) ∙ ap (drop (length (groupsOf (suc n) n))) e ∙ drop-append-seam (groupsOf (suc n) n) rest,
+)
+
+-- so the shortest form of n reads as n, after any bytes and before any others
 pub decode-encode : (bits n : ℕ) (front rest : List ℕ) → n < 2 ^ bits
     → numberAt bits (front ++ (encoded n ++ rest)) (length front) ≡ tells (n, length front + length (encoded n))
-unfolding numberAt encoded
 decode-encode bits n front rest h =
-    ap (λ (s : List ℕ). readFrom (2 ^ bits - 1) s (length front) (part 0 0)) (drop-append-seam front (groupsOf (suc n) n ++ rest))
-    ∙ groups-back (2 ^ bits - 1) (suc n) n 0 0 (length front) rest (omega arith) (omega arith) (omega arith)
-    ∙ ap (λ (v : ℕ). tells (v, length front + length (groupsOf (suc n) n))) (omega arith)
+    decode-at bits n (front ++ (encoded n ++ rest)) rest (length front) h (drop-append-seam front (encoded n ++ rest)) .0
 
 -- ---- encode of decode
 
@@ -59,15 +68,10 @@ record Shortest (s : List ℕ) (w g at v n : ℕ) : Type 0 where
   sums : v ≡ w + x * worth g
   low-end : least g ≤ x
 
-pub never : {A : Type 0} {k v n : ℕ} → _≡_ {A = Told (ℕ × ℕ)} (refused k) (tells (v, n)) → A
-never e = let z : _≡_ {A = ℕ} 0 1 = cc in absurd (omega arith)
-
-pub told : {a b v n : ℕ} → _≡_ {A = Told (ℕ × ℕ)} (tells (a, b)) (tells (v, n)) → (a ≡ v) × (b ≡ n)
-told {a} {b} {v} {n} e = let p : _≡_ {A = ℕ × ℕ} (a, b) (v, n) = cc in (ap (λ (y : ℕ × ℕ). y .0) p, ap (λ (y : ℕ × ℕ). y .1) p)
-
 last-is : (b w g at v n : ℕ) (s : List ℕ) → least g ≤ b → b < 128 → _≡_ {A = Told (ℕ × ℕ)} (tells (w + b * worth g, at + 1)) (tells (v, n)) → Shortest (b ∷ s) w g at v n
 last-is b w g at v n s l i e =
-    record { x = b; rest = s; starts = rw (encoded-last b i); stands = rw (encoded-last b i) (sym (told e .1)); sums = sym (told e .0); low-end = l }
+    let t = both (told e) in
+    record { x = b; rest = s; starts = rw (encoded-last b i); stands = rw (encoded-last b i) (sym (t .1)); sums = sym (t .0); low-end = l }
 
 more-is : (b w g at v n : ℕ) (s : List ℕ) → b < 256 → 128 ≤ b → Shortest s (w + b % 128 * worth g) (g + 1) (at + 1) v n → Shortest (b ∷ s) w g at v n
 more-is b w g at v n s f i r =

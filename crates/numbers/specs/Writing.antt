@@ -23,3 +23,8 @@ outcome r b = (endOf r, b)
 -- where they do not fit, 6, and the buffer stays
 unfoldable pub written : ℕ → List ℕ → List ℕ → Told ℕ × List ℕ
 written at t b = cond (leb (at + length t) (length b)) (tells (at + length t), put b at t) (refused 6, b)
+
+-- the bytes t asked where others have ended, unless those were refused
+abbrev pub writtenAfter : Told ℕ → List ℕ → List ℕ → Told ℕ × List ℕ
+writtenAfter (tells at) t b = written at t b
+writtenAfter (refused k) t b = (refused k, b)

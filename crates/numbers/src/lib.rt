@@ -5,7 +5,7 @@ ghost use Prim.Native.Nat.{_+_, _≤_};
 ghost use lib.ListN.{length, drop};
 ghost use Rattle.lists.specs.Put.{put};
 ghost use Rattle.numbers.specs.Numbers.{readingOf, stepOf, readFrom, numberAt, takeOf, unread, encoded};
-ghost use Rattle.numbers.specs.Writing.{outcome, written};
+ghost use Rattle.numbers.specs.Writing.{endOf, outcome, written, writtenAfter};
 use refusal::Refusal;
 
 // ---- reading
@@ -163,4 +163,14 @@ pub fn write_number(n: u64, at: usize, out: &mut [u8]) -> Written
     }
     put_number(n, at, out);
     Written::End(at + count)
+}
+
+// Writes a number where the last one ended; a refusal is handed on, and nothing is written.
+pub fn write_after(last: Written, n: u64, out: &mut [u8]) -> Written
+    ensures { λ r. ⌜ outcome r (now (out .exit)) ≡ writtenAfter (endOf last) (encoded n) (now (out .entry)) ⌝ }
+{
+    match last {
+        Written::Refused(why) => Written::Refused(why),
+        Written::End(at) => write_number(n, at, out),
+    }
 }

@@ -67,7 +67,7 @@ returns c =
 returns-2 : tie.Need-returns-2
 returns-2 c =
     let a = c .before .before .args in
-    beyond (a .limit) (a .state .value) (a .state .groups) (a .b) (not-low (c .before)) (search needs) (c .if3 .taken)
+    beyond (a .limit) (a .state .value) (a .state .groups) (a .b) (not-low (c .before)) (search needs) (omega arith)
 
 returns-3 : tie.Need-returns-3
 returns-3 c =
