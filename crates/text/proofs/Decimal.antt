@@ -1,16 +1,18 @@
--- Laws of decimal text. Assumes nothing.
+-- Laws of decimal text: its length, by a step from a number to a tenth of it, and its digits put into a buffer from the last on. Assumes nothing.
 use mathlib.Core.Path.{_≡_, refl, sym, ap, _∙_, subst}
-use mathlib.Core.List.{List, [], _∷_, _++_}
+use mathlib.Core.Logic.{⊎-elim}
+use mathlib.Core.List.{List, [], _∷_, _++_, append-assoc}
 use Prim.Native.Nat.{ℕ, zero, suc, _+_, _*_, _-_, _/_, _%_, _^_, _≤_, _<_, zero-le, suc-le-suc}
-use native.Mathlib.Nat.{pow-suc, div-lt-iff-lt-mul, not-suc-le-zero}
+use native.Mathlib.Nat.{pow-suc, not-suc-le-zero, eq-zero-or-pos, le-refl}
 use native.Mathlib.Decide.{le-ind}
 use native.Mathlib.Omega.{arith}
 use lib.ListN.{length, set, length-append}
-use lib.Dec.{lit≤}
 use lib.Arith.{lt-one, le-zero}
-use Rattle.text.specs.Text.{lastDigits, digits, decimal}
 use Rattle.lists.specs.Put.{put}
 use Rattle.lists.proofs.Put.{put-nil, put-snoc}
+use Rattle.text.specs.Text.{lastDigits, digits, decimal}
+
+-- ---- digits, a step at a time
 
 more : (f n : ℕ) → n ≤ f → lastDigits (suc f) n ≡ lastDigits f n
 more zero zero h = refl
@@ -34,6 +36,21 @@ digits-zero = refl
 pub digits-none : (n : ℕ) → n ≤ 0 → length (digits n) ≡ 0
 digits-none n h = ap (λ (m : ℕ). length (digits m)) (le-zero h) ∙ ap length digits-zero
 
+-- the digits of a number before a text: those of a tenth, and then the last
+pub digits-then : (n : ℕ) (t : List ℕ) → 0 < n → digits n ++ t ≡ digits (n / 10) ++ ((48 + n % 10) ∷ t)
+digits-then n t h = ap (λ (l : List ℕ). l ++ t) (digits-step n h) ∙ append-assoc (digits (n / 10)) ((48 + n % 10) ∷ []) t
+
+below : (P : ℕ → Type 0) → P 0 → ((n : ℕ) → 0 < n → P (n / 10) → P n) → (f n : ℕ) → n ≤ f → P n
+below P none step zero n h = subst P (sym (le-zero h)) none
+below P none step (suc f) n h =
+    ⊎-elim (λ e. subst P (sym e) none) (λ p. step n p (below P none step f (n / 10) (omega arith))) (eq-zero-or-pos n)
+
+-- what holds of 0, and of a number where it holds of its tenth, holds of all
+pub by-tens : (P : ℕ → Type 0) → P 0 → ((n : ℕ) → 0 < n → P (n / 10) → P n) → (n : ℕ) → P n
+by-tens P none step n = below P none step n n (le-refl n)
+
+-- ---- how long a decimal text is
+
 pub length-decimal : (n : ℕ) → length (decimal n) ≡ length (digits (n / 10)) + 1
 length-decimal n = simp length-append
 
@@ -51,6 +68,8 @@ digits-short (suc k) n h = short-step k (digits-short k) n h
 
 pub length-decimal-64 : (n : ℕ) → n < 2 ^ 64 → length (decimal n) ≤ 20
 length-decimal-64 n h = omega (arith, length-decimal n, digits-short 19 (n / 10) (omega arith))
+
+-- ---- digits put into a buffer from the last on
 
 -- a turn of the loop that puts a number's digits in from the back, and its end; whole is what comes out
 module _ (out whole : List ℕ) (at i rest : ℕ) (e : put out at (digits rest) ≡ whole) where

@@ -1,6 +1,6 @@
 -- Numbers and keys as text, in ASCII, and text written into a buffer. Assumes nothing.
 use Prim.Native.Nat.{ℕ, zero, suc, _+_, _-_, _*_, _/_, _%_}
-use mathlib.Core.Bool.{Bool, cond, _&&_}
+use mathlib.Core.Bool.{cond, _&&_}
 use mathlib.Core.List.{List, [], _∷_, _++_}
 use lib.ListN.{length}
 use lib.Dec.{leb, ltb}
@@ -42,9 +42,13 @@ valueOf t = valueFrom 0 t
 
 -- ---- keys
 
+-- `null`, letter by letter
+abbrev pub nullText : List ℕ
+nullText = 110 ∷ 117 ∷ 108 ∷ 108 ∷ []
+
 -- "Any key with that index is null and prints `null`; others print index, `v`, version."
 unfoldable pub keyText : KeyData → List ℕ
-keyText k = cond (isNull k) (110 ∷ 117 ∷ 108 ∷ 108 ∷ []) (decimal (k .idx) ++ (118 ∷ decimal (k .version)))
+keyText k = cond (isNull k) nullText (decimal (k .idx) ++ (118 ∷ decimal (k .version)))
 
 -- ---- a text in a lent buffer
 
@@ -56,6 +60,10 @@ pub data Told : Type 0 where
 abbrev pub toldOf : Written → Told
 toldOf (End n) = ends-at n
 toldOf (Refused r) = refused (numberOf r)
+
+-- an outcome: what the answer says, and the buffer after
+abbrev pub outcome : Written → List ℕ → Told × List ℕ
+outcome r b = (toldOf r, b)
 
 -- the text t asked into the buffer b from a place on: the place after it, and the buffer with the text put in, every other byte as it was;
 -- where the text does not fit, refusal 6, and the buffer stays

@@ -1,12 +1,11 @@
 // Texts in a lent buffer: bytes, decimal numbers and keys, each written from a place on.
 // The whole length is judged before the first byte is stored, so a refusal leaves the buffer as it was.
 ghost use mathlib.Core.Path.{_≡_};
-ghost use mathlib.Core.List.{List};
-ghost use Prim.Native.Nat.{ℕ, _+_, _≤_};
+ghost use Prim.Native.Nat.{_+_, _≤_};
 ghost use lib.Dec.{leb};
 ghost use lib.ListN.{length};
 ghost use Rattle.lists.specs.Put.{put};
-ghost use Rattle.text.specs.Text.{decimal, keyText, Told, toldOf, written};
+ghost use Rattle.text.specs.Text.{decimal, keyText, outcome, written};
 use keys::KeyData;
 use refusal::Refusal;
 
@@ -70,7 +69,7 @@ fn put_decimal(number: u64, at: usize, end: usize, out: &mut [u8])
 
 // Writes the bytes of a text from a place on.
 pub fn write_bytes(text: &[u8], at: usize, out: &mut [u8]) -> Written
-    ensures { λ r. ⌜ _≡_ {A = Told × List ℕ} (toldOf r, now (out .exit)) (written at (now (text .entry)) (now (out .entry))) ⌝ }
+    ensures { λ r. ⌜ outcome r (now (out .exit)) ≡ written at (now (text .entry)) (now (out .entry)) ⌝ }
 {
     if !fits(at, text.len(), out.len()) {
         return Written::Refused(Refusal::Short);
@@ -81,7 +80,7 @@ pub fn write_bytes(text: &[u8], at: usize, out: &mut [u8]) -> Written
 
 // Writes a number in decimal from a place on.
 pub fn write_decimal(number: u64, at: usize, out: &mut [u8]) -> Written
-    ensures { λ r. ⌜ _≡_ {A = Told × List ℕ} (toldOf r, now (out .exit)) (written at (decimal number) (now (out .entry))) ⌝ }
+    ensures { λ r. ⌜ outcome r (now (out .exit)) ≡ written at (decimal number) (now (out .entry)) ⌝ }
 {
     let count = decimal_len(number);
     if !fits(at, count, out.len()) {
@@ -94,7 +93,7 @@ pub fn write_decimal(number: u64, at: usize, out: &mut [u8]) -> Written
 
 // Writes a key from a place on: `null`, or its index, `v` and its version.
 pub fn write_key(key: KeyData, at: usize, out: &mut [u8]) -> Written
-    ensures { λ r. ⌜ _≡_ {A = Told × List ℕ} (toldOf r, now (out .exit)) (written at (keyText key) (now (out .entry))) ⌝ }
+    ensures { λ r. ⌜ outcome r (now (out .exit)) ≡ written at (keyText key) (now (out .entry)) ⌝ }
 {
     if key.is_null() {
         return write_bytes(b"null", at, out);

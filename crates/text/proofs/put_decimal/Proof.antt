@@ -1,11 +1,11 @@
 -- `put_decimal` puts the digits in from the back: the digits of the rest, put in, give the same whole at every turn. Assumes nothing.
-use mathlib.Core.Path.{_≡_, refl, sym, ap, _∙_}
-use Prim.Native.Nat.{_≤_, _+_, _-_, _/_, _%_}
+use mathlib.Core.Path.{_≡_, refl, ap, _∙_}
+use Prim.Native.Nat.{_≤_, _+_}
 use native.Mathlib.Omega.{arith}
 use lib.ListN.{length, length-set}
 use borrow.Author.Needs.{needs}
 use Rattle.lists.specs.Put.{put}
-use Rattle.text.specs.Text.{digits, decimal}
+use Rattle.text.specs.Text.{digits}
 use Rattle.text.proofs.Decimal.{length-decimal, digits-step, back-start, back-turn, back-end}
 use Rattle.text.proofs.put_decimal.Statement.{statement}
 use Rattle.text.proofs.put_decimal.Tie as tie

@@ -1,5 +1,5 @@
 -- `write_decimal` answers what `fits` says of the number's digits, and then puts them in. Assumes nothing.
-use mathlib.Core.Path.{_≡_, ap}
+use mathlib.Core.Path.{ap}
 use Prim.Native.Nat.{ℕ, _+_, _≤_}
 use native.Mathlib.Omega.{arith}
 use lib.ListN.{length}

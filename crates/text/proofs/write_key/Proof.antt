@@ -10,7 +10,8 @@ use Rattle.lists.proofs.Tests.{refuted, confirmed}
 use Rattle.keys.specs.Keys.{isNull}
 use Rattle.text.specs.Text.{keyText}
 use Rattle.text.proofs.Decimal.{length-decimal-64}
-use Rattle.text.proofs.Text.{written-fits, written-short, key-text-null, key-text-length, key-text-put}
+use Rattle.text.proofs.Text.{written-fits, written-short}
+use Rattle.text.proofs.Keys.{key-text-null, key-text-length, key-text-put}
 use Rattle.text.proofs.write_key.Statement.{statement}
 use Rattle.text.proofs.write_key.Tie as tie
 
