@@ -58,11 +58,11 @@ fn put_decimal(number: u64, at: usize, end: usize, out: &mut [u8])
     ensures { λ _. ⌜ now (out .exit) ≡ put (now (out .entry)) at (decimal number) ⌝ }
 {
     let mut i = end - 1;
-    out[i] = 48 + (number % 10) as u8;
+    out[i] = b'0' + (number % 10) as u8;
     let mut rest = number / 10;
     while 0 < rest {
         i -= 1;
-        out[i] = 48 + (rest % 10) as u8;
+        out[i] = b'0' + (rest % 10) as u8;
         rest = rest / 10;
     }
 }
@@ -74,8 +74,9 @@ pub fn write_bytes(text: &[u8], at: usize, out: &mut [u8]) -> Written
     if !fits(at, text.len(), out.len()) {
         return Written::Refused(Refusal::Short);
     }
+    let end = at + text.len();
     put_bytes(text, at, out);
-    Written::End(at + text.len())
+    Written::End(end)
 }
 
 // Writes a number in decimal from a place on.

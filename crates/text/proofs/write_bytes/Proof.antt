@@ -18,8 +18,8 @@ returns c =
     let s = c .before .before .before .before .args in
     written-short (s .at) _ (s .text .now) (s .out .now) refl (refuted (c .before .fits2 .ensures) (c .if1 .taken))
 
-add-t6 : tie.Need-add-t6
-add-t6 c = omega (arith, room (c .before .before .before .before))
+add-end : tie.Need-add-end
+add-end c = omega (arith, room c)
 
 returns-2 : tie.Need-returns-2
 returns-2 c =
@@ -28,4 +28,4 @@ returns-2 c =
     written-fits (s .at) _ (s .text .now) (s .out .now) refl _ (confirmed (e .before .fits2 .ensures) (e .if1 .left)) (c .before .before .put-bytes .ensures)
 
 pub write-bytes-spec : {M : Type 1} → statement M
-write-bytes-spec = tie.close (tie.spec (λ c κs. search needs) returns (λ c κs. room (c .before)) add-t6 (λ c. search needs) returns-2)
+write-bytes-spec = tie.close (tie.spec (λ c κs. search needs) returns add-end (λ c κs. room (c .before)) (λ c. search needs) returns-2)
