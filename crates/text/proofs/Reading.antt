@@ -1,6 +1,6 @@
 -- Decimal text reads back as the number it was made from, so it is one-to-one; its bytes are digits, and no zero leads.
 -- By steps from a number to a tenth of it, before any text that follows. Assumes nothing.
-use mathlib.Core.Path.{_≡_, sym, ap, _∙_}
+use mathlib.Core.Path.{_≡_, sym, ap, _∙_, subst}
 use mathlib.Core.Logic.{⊎-elim}
 use mathlib.Core.List.{List, [], _∷_, _++_, append-assoc, append-nil, List·Memᴰ, List·Memᴰ·append-cases, List·Memᴰ·eq-of-singleton, List·Memᴰ·not-nil}
 use Prim.Native.Nat.{ℕ, _+_, _*_, _/_, _%_, _≤_, _<_}
@@ -68,6 +68,6 @@ digits-first =
     by-tens (λ (n : ℕ). (t : List ℕ) → 0 < n → 48 < getD (digits n ++ t) 0 0) (λ t h. absurd (omega arith))
     (λ n h ih t _. first-step n t h (ih ((48 + n % 10) ∷ t)))
 
--- the first is no zero, from 10 on
-pub decimal-first : (n : ℕ) → 10 ≤ n → 48 < getD (decimal n) 0 0
-decimal-first n h = digits-first (n / 10) ((48 + n % 10) ∷ []) (omega arith)
+-- the first is no zero, of any number but 0
+pub decimal-first : (n : ℕ) → 0 < n → 48 < getD (decimal n) 0 0
+decimal-first n h = subst (λ (t : List ℕ). 48 < getD t 0 0) (append-nil (digits n) ∙ digits-step n h) (digits-first n [] h)

@@ -13,7 +13,7 @@ use Rattle.text.specs.declared.Written.the-variants.{End, Refused}
 
 -- ---- numbers
 
--- the digits of n, the first number being how many may be taken, from the last on; they stop where nothing but zeros is left
+-- at most so many of the digits of n, counted from its last; they end where only zeros would come before
 abbrev pub lastDigits : ℕ → ℕ → List ℕ
 lastDigits zero n = []
 lastDigits (suc f) zero = []
@@ -57,6 +57,7 @@ pub data Told : Type 0 where
   ends-at : ℕ → Told
   refused : ℕ → Told
 
+-- the same, of the answer that the code gives
 abbrev pub toldOf : Written → Told
 toldOf (End n) = ends-at n
 toldOf (Refused r) = refused (numberOf r)

@@ -17,8 +17,8 @@ pub enum Written {
     Refused(Refusal),
 }
 
-// Whether so many bytes from a place on are in a buffer of this size; the place and the length are never added, as the sum may wrap.
-fn fits(at: usize, count: usize, size: usize) -> bool
+// Whether so many bytes fit from a place on into a buffer of this size. The place and the count are never added: their sum may not fit a usize.
+fn has_room(at: usize, count: usize, size: usize) -> bool
     ensures { λ r. ⌜ r ≡ leb (at + count) size ⌝ }
 {
     if size < at {
@@ -71,7 +71,7 @@ fn put_decimal(number: u64, at: usize, end: usize, out: &mut [u8])
 pub fn write_bytes(text: &[u8], at: usize, out: &mut [u8]) -> Written
     ensures { λ r. ⌜ outcome r (now (out .exit)) ≡ written at (now (text .entry)) (now (out .entry)) ⌝ }
 {
-    if !fits(at, text.len(), out.len()) {
+    if !has_room(at, text.len(), out.len()) {
         return Written::Refused(Refusal::Short);
     }
     let end = at + text.len();
@@ -84,7 +84,7 @@ pub fn write_decimal(number: u64, at: usize, out: &mut [u8]) -> Written
     ensures { λ r. ⌜ outcome r (now (out .exit)) ≡ written at (decimal number) (now (out .entry)) ⌝ }
 {
     let count = decimal_len(number);
-    if !fits(at, count, out.len()) {
+    if !has_room(at, count, out.len()) {
         return Written::Refused(Refusal::Short);
     }
     let end = at + count;
@@ -102,7 +102,7 @@ pub fn write_key(key: KeyData, at: usize, out: &mut [u8]) -> Written
     let index = decimal_len(key.idx as u64);
     let version = decimal_len(key.version as u64);
     let count = index + 1 + version;
-    if !fits(at, count, out.len()) {
+    if !has_room(at, count, out.len()) {
         return Written::Refused(Refusal::Short);
     }
     let letter = at + index;

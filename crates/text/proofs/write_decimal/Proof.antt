@@ -1,4 +1,4 @@
--- `write_decimal` answers what `fits` says of the number's digits, and then puts them in. Assumes nothing.
+-- `write_decimal` answers what `has_room` says of the number's digits, and then puts them in. Assumes nothing.
 use mathlib.Core.Path.{ap}
 use Prim.Native.Nat.{ℕ, _+_, _≤_}
 use native.Mathlib.Omega.{arith}
@@ -12,13 +12,13 @@ use Rattle.text.proofs.write_decimal.Statement.{statement}
 use Rattle.text.proofs.write_decimal.Tie as tie
 
 room : (c : tie.Else1) → let l = c .before .before in let s = l .before .before .args in s .at + l .decimal-len .result ≤ length (s .out .now)
-room c = leb-true _ _ (confirmed (c .before .fits2 .ensures) (c .if1 .left))
+room c = leb-true _ _ (confirmed (c .before .has-room .ensures) (c .if1 .left))
 
 returns : tie.Need-returns
 returns c =
     let l = c .before .before in
     let s = l .before .before .args in
-    written-short (s .at) _ (decimal (s .number)) (s .out .now) (l .decimal-len .ensures) (refuted (c .before .fits2 .ensures) (c .if1 .taken))
+    written-short (s .at) _ (decimal (s .number)) (s .out .now) (l .decimal-len .ensures) (refuted (c .before .has-room .ensures) (c .if1 .taken))
 
 add-end : tie.Need-add-end
 add-end c = omega (arith, room c)
@@ -33,7 +33,7 @@ returns-2 c =
     let e = c .before .before .before .before in
     let l = e .before .before in
     let s = l .before .before .args in
-    written-fits (s .at) _ (decimal (s .number)) (s .out .now) (l .decimal-len .ensures) _ (confirmed (e .before .fits2 .ensures) (e .if1 .left)) (c .before .before .put-decimal .ensures)
+    written-fits (s .at) _ (decimal (s .number)) (s .out .now) (l .decimal-len .ensures) _ (confirmed (e .before .has-room .ensures) (e .if1 .left)) (c .before .before .put-decimal .ensures)
 
 pub write-decimal-spec : {M : Type 1} → statement M
 write-decimal-spec =

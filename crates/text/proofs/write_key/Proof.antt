@@ -39,13 +39,13 @@ small c =
 -- where the text fits
 room : (c : tie.Else2) → let l = c .before .before in let s = start l .args in
     s .at + (l .before .before .decimal-len .result + 1 + l .decimal-len2 .result) ≤ length (s .out .now)
-room c = leb-true _ _ (confirmed (c .before .fits2 .ensures) (c .if2 .left))
+room c = leb-true _ _ (confirmed (c .before .has-room .ensures) (c .if2 .left))
 
 returns-2 : tie.Need-returns-2
 returns-2 c =
     let l = c .before .before in
     let s = start l .args in
-    written-short (s .at) _ (keyText (s .key)) (s .out .now) (long l) (refuted (c .before .fits2 .ensures) (c .if2 .taken))
+    written-short (s .at) _ (keyText (s .key)) (s .out .now) (long l) (refuted (c .before .has-room .ensures) (c .if2 .taken))
 
 put-decimal-requires : tie.Need-put-decimal-requires
 put-decimal-requires c κs =
@@ -69,7 +69,7 @@ returns-3 c =
     let l = e .before .before in
     let s = start l .args in
     let first = l .before .before .decimal-len in
-    written-fits (s .at) _ (keyText (s .key)) (s .out .now) (long l) _ (confirmed (e .before .fits2 .ensures) (e .if2 .left))
+    written-fits (s .at) _ (keyText (s .key)) (s .out .now) (long l) _ (confirmed (e .before .has-room .ensures) (e .if2 .left))
     (key-text-put (s .key) (plain l) (s .out .now) _ _ (s .at) (s .at + first .result) (ap (λ (n : ℕ). s .at + n) (first .ensures))
     (omega (arith, room e, l .decimal-len2 .ensures)) (g .put-decimal .ensures) (c .before .before .put-decimal2 .ensures))
 

@@ -1,11 +1,11 @@
--- `fits` tests the place before the count, which is the same as testing their sum. Assumes nothing.
+-- `has_room` tests the place before the count, which is the same as testing their sum. Assumes nothing.
 use mathlib.Core.Path.{sym}
 use Prim.Native.Nat.{_+_, _-_}
 use native.Mathlib.Omega.{arith}
 use borrow.Author.Tests.{leb-true, le-leb, lt-leb}
 use Rattle.lists.proofs.Tests.{same-test}
-use Rattle.text.proofs.fits.Statement.{statement}
-use Rattle.text.proofs.fits.Tie as tie
+use Rattle.text.proofs.has_room.Statement.{statement}
+use Rattle.text.proofs.has_room.Tie as tie
 
 returns : tie.Need-returns
 returns c =
@@ -19,5 +19,5 @@ returns-2 c =
     (λ h. le-leb (s .at + s .count) (s .size) (omega (arith, leb-true (s .count) (s .size - s .at) h)))
     (λ h. le-leb (s .count) (s .size - s .at) (omega (arith, leb-true (s .at + s .count) (s .size) h)))
 
-pub fits-spec : {M : Type 1} → statement M
-fits-spec = tie.close (tie.spec returns returns-2)
+pub has-room-spec : {M : Type 1} → statement M
+has-room-spec = tie.close (tie.spec returns returns-2)
