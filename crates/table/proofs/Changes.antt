@@ -1,4 +1,4 @@
--- What one change does to one key: its value, and whether it is detached. Assumes nothing.
+-- What a change does to one key, as functions of what held before: its value, and whether it is detached. Assumes nothing.
 use mathlib.Core.Bool.{Bool, true, false, cond}
 use mathlib.Core.Option.{Option, none, some}
 use Prim.Native.Nat.{ℕ}
@@ -6,15 +6,15 @@ use lib.Dec.{eqb}
 use Rattle.keys.specs.Keys.{idx}
 use Rattle.table.specs.Reading.{Change, nothing, issued, returned, revalued, dies, parts, sieved}
 
--- a value that is there becomes x
-abbrev pub onSome : ℕ → Option ℕ → Option ℕ
-onSome x none = none
-onSome x (some y) = some x
-
--- a value stays, if the rule keeps the index and it
+-- a value stays, if the rule keeps the key's index and it
 abbrev pub sieve : (ℕ → ℕ → Bool) → ℕ → Option ℕ → Option ℕ
 sieve keeps i none = none
 sieve keeps i (some x) = cond (keeps i x) (some x) none
+
+-- the value x, if the key lives
+abbrev pub onSome : ℕ → Option ℕ → Option ℕ
+onSome x none = none
+onSome x (some y) = some x
 
 -- the value of the key k after a change, where g is its value before
 abbrev pub livesAfter : Change → ℕ → Option ℕ → Option ℕ
