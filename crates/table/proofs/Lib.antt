@@ -1,2 +1,4 @@
 pub mod Changes
 pub mod Readings
+pub mod Frames
+pub mod Refused
