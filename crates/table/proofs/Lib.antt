@@ -2,3 +2,4 @@ pub mod Changes
 pub mod Readings
 pub mod Frames
 pub mod Refused
+pub mod Places

@@ -12,7 +12,7 @@ use Rattle.keys.specs.Keys.{far, idx, pack, version, asRead, odd, down}
 use Rattle.rules.specs.declared.Rule.{Rule}
 use Rattle.rules.specs.Rules.{keepsOf}
 use Rattle.table.specs.Table.{Table, ver, link, key, val, cap, lengthsFit, hasShape, isLive, dead, isDetached, isHeld, last, lastIdx, lastInRange, lastIsHeld, hasPlace, headIsFree, freedHead, partedHead, rejoinedHead, withValue, entered, freed, left}
-use Rattle.table.specs.Calls.{Said, said-key, said-value, said-pair, said-done, said-count, said-truth, refused, Out, Judged, found, fails, on, cannot, fresh, placeIn, place, lookup, put, nextIn, next, inserted, insert, lastOf, leaving, remove, detach, berthIn, berth, reattach, drain}
+use Rattle.table.specs.Calls.{Said, said-key, said-value, said-pair, said-done, said-count, said-truth, refused, Out, Judged, found, fails, on, cannot, fresh, placeIn, place, lookup, put, nextIn, next, inserted, insert, keySaid, nextKey, lastOf, leaving, remove, detach, berthIn, berth, reattach, drain}
 use Rattle.table.specs.Sound.{isSound}
 use Rattle.table.specs.Sweeps.{asked, retaining, retain, clearing, clear}
 use Rattle.table.specs.Steps.{Call, c-lookup, c-put, c-insert, c-remove, c-detach, c-reattach, c-drain, c-retain, c-clear, step}
@@ -144,6 +144,15 @@ module _ (t : Table) where
   unfolding insert
   insert-ruled x = ruled-on t (next t) (first (insertTests t)) issues _ next-judged
 
+  -- the next key is the very key, or the very refusal, that insert answers
+  pub insert-next-key : (x : ℕ) → insert t x .0 ≡ nextKey t
+  unfolding insert nextKey
+  insert-next-key x = answers (next t)
+    where
+      answers : (j : Judged) → on t j (λ k. (said-key k, inserted t k x)) .0 ≡ keySaid j
+      answers (found k) = refl
+      answers (fails r) = refl
+
   berth-judged : (k : ℕ) → berth t k ≡ judged (first (reattachTests t k)) (idx k)
   unfolding berth berthIn
   berth-judged k =
@@ -189,24 +198,24 @@ isRefused (said-count m) = false
 isRefused (said-truth b) = false
 isRefused (refused r) = true
 
-pub ruled-keeps : {A : Type 0} (u : A) (f : Option ℕ) (o : Said × A) → isRefused (o .0) ≡ false → (r : ℕ) → ruled u f o .0 ≡ refused r → ruled u f o .1 ≡ u
-ruled-keeps u none o h r e = true-false (ap isRefused e) h
-ruled-keeps u (some q) o h r e = refl
+ruled-as-was : {A : Type 0} (u : A) (f : Option ℕ) (o : Said × A) → isRefused (o .0) ≡ false → (r : ℕ) → ruled u f o .0 ≡ refused r → ruled u f o .1 ≡ u
+ruled-as-was u none o h r e = true-false (ap isRefused e) h
+ruled-as-was u (some q) o h r e = refl
 
-keeps : (t : Table) (c : Out) (f : Option ℕ) (o : Out) → c ≡ ruled t f o → isRefused (o .0) ≡ false → (r : ℕ) → c .0 ≡ refused r → c .1 ≡ t
-keeps t c f o e h r q = ap (λ (z : Out). z .1) e ∙ ruled-keeps t f o h r (sym (ap (λ (z : Out). z .0) e) ∙ q)
+pub ruled-keeps : {A : Type 0} (u : A) (c : Said × A) (f : Option ℕ) (o : Said × A) → c ≡ ruled u f o → isRefused (o .0) ≡ false → (r : ℕ) → c .0 ≡ refused r → c .1 ≡ u
+ruled-keeps {A} u c f o e h r q = ap (λ (z : Said × A). z .1) e ∙ ruled-as-was u f o h r (sym (ap (λ (z : Said × A). z .0) e) ∙ q)
 
 pub refused-keeps : (t : Table) (c : Call) (r : ℕ) → step t c .0 ≡ refused r → step t c .1 ≡ t
 unfolding step
-refused-keeps t (c-lookup k) = keeps t _ (first (placeTests t k)) _ (lookup-ruled t k) refl
-refused-keeps t (c-put k x) = keeps t _ (first (placeTests t k)) _ (put-ruled t k x) refl
-refused-keeps t (c-insert x) = keeps t _ (first (insertTests t)) _ (insert-ruled t x) refl
-refused-keeps t (c-remove k) = keeps t _ (first (leaveTests t k)) _ (remove-ruled t k) refl
-refused-keeps t (c-detach k) = keeps t _ (first (leaveTests t k)) _ (detach-ruled t k) refl
-refused-keeps t (c-reattach k x) = keeps t _ (first (reattachTests t k)) _ (reattach-ruled t k x) refl
-refused-keeps t c-drain = keeps t _ (first (drainTests t)) _ (drain-ruled t) (either (λ (o : Out). isRefused (o .0) ≡ false) (eqb (t .head .n) 0) _ _ refl refl)
-refused-keeps t (c-retain rule) = keeps t _ (first (sweepTests t)) _ (retain-ruled t rule) refl
-refused-keeps t c-clear = keeps t _ (first (sweepTests t)) _ (clear-ruled t) refl
+refused-keeps t (c-lookup k) = ruled-keeps t _ (first (placeTests t k)) _ (lookup-ruled t k) refl
+refused-keeps t (c-put k x) = ruled-keeps t _ (first (placeTests t k)) _ (put-ruled t k x) refl
+refused-keeps t (c-insert x) = ruled-keeps t _ (first (insertTests t)) _ (insert-ruled t x) refl
+refused-keeps t (c-remove k) = ruled-keeps t _ (first (leaveTests t k)) _ (remove-ruled t k) refl
+refused-keeps t (c-detach k) = ruled-keeps t _ (first (leaveTests t k)) _ (detach-ruled t k) refl
+refused-keeps t (c-reattach k x) = ruled-keeps t _ (first (reattachTests t k)) _ (reattach-ruled t k x) refl
+refused-keeps t c-drain = ruled-keeps t _ (first (drainTests t)) _ (drain-ruled t) (either (λ (o : Out). isRefused (o .0) ≡ false) (eqb (t .head .n) 0) _ _ refl refl)
+refused-keeps t (c-retain rule) = ruled-keeps t _ (first (sweepTests t)) _ (retain-ruled t rule) refl
+refused-keeps t c-clear = ruled-keeps t _ (first (sweepTests t)) _ (clear-ruled t) refl
 
 -- fresh writes nothing where the lengths do not fit
 pub fresh-refused-keeps : (vs ls ks xs : List ℕ) (r : ℕ) → fresh vs ls ks xs .0 ≡ cannot r → fresh vs ls ks xs .1 ≡ (vs, ls)
