@@ -3,3 +3,5 @@ pub mod Readings
 pub mod Frames
 pub mod Refused
 pub mod Places
+pub mod Only
+pub mod Runs
