@@ -5,3 +5,4 @@ pub mod Refused
 pub mod Places
 pub mod Only
 pub mod Runs
+pub mod Values
