@@ -2,3 +2,11 @@ pub mod Shape
 pub mod Judged
 pub mod Judging
 pub mod Storing
+pub mod Changes
+pub mod Readings
+pub mod Frames
+pub mod Refused
+pub mod Places
+pub mod Values
+pub mod Only
+pub mod Runs
