@@ -8,12 +8,17 @@ use Rattle.table.specs.Table.{Table}
 use Rattle.table.specs.Calls.{Judged, found, fails, keySaid, said-key, refused, next, nextKey}
 use Rattle.dense.specs.declared.Placed.{Placed}
 use Rattle.dense.specs.declared.Placed.the-variants.{At}
+use Rattle.dense.specs.declared.Slot.{Slot}
+use Rattle.dense.specs.declared.Slot.the-variants as slot
 use Rattle.dense.specs.declared.Issued.{Issued}
 use Rattle.dense.specs.declared.Issued.the-variants.{Key, Refused}
-use Rattle.dense.specs.Answers.{judgedOf, issuedSaid}
+use Rattle.dense.specs.Answers.{judgedOf, slotJudged, issuedSaid}
 
 pub placed-at : {r : Placed} {q : Judged} {p : ℕ} → judgedOf r ≡ q → r ≡ At p → q ≡ found p
 placed-at e h = sym e ∙ ap judgedOf h
+
+pub slot-at : {r : Slot} {q : Judged} {i : ℕ} → slotJudged r ≡ q → r ≡ slot.At i → q ≡ found i
+slot-at e h = sym e ∙ ap slotJudged h
 
 key-found : (q : Judged) (k : ℕ) → keySaid q ≡ said-key k → q ≡ found k
 key-found (found j) k e = ap found (cc)
