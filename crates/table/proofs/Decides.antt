@@ -1,10 +1,10 @@
 -- Theorem H: the yes-or-no check decides soundness. A walk that ends meets no slot twice, so the free list holds every waiting slot when it is as long
 -- as there are waiting slots. Assumes nothing.
-use mathlib.Core.Path.{_≡_, refl, sym, ap, _∙_}
+use mathlib.Core.Path.{_≡_, sym, ap, _∙_}
 use mathlib.Core.Logic.{_≢_, _⊎_, inl, inr, by-cases, ⊎-elim, _↔_}
-use mathlib.Core.Bool.{Bool, true, not}
+use mathlib.Core.Bool.{true, not}
 use mathlib.Core.List.{List, List·Memᴰ, Memᴰ·cast}
-use Prim.Native.Nat.{ℕ, _%_, _≤_, _<_}
+use Prim.Native.Nat.{ℕ, _≤_, _<_}
 use native.Mathlib.Omega.{arith}
 use native.Mathlib.Nat.{le-antisymm}
 use native.Mathlib.Decide.{ℕ-discrete}
@@ -15,12 +15,12 @@ use Rattle.lists.specs.Count.{count, every}
 use Rattle.lists.proofs.Tests.{and-true, tests, parts}
 use Rattle.lists.proofs.Count.{minus, minus-true, count-minus, every-at, at-every}
 use Rattle.lists.proofs.Once.{mem-dec, once-count, count-once}
-use Rattle.keys.specs.Keys.{W, far, idx, vsn}
-use Rattle.table.specs.Table.{Table, ver, link, key, hasShape}
+use Rattle.keys.specs.Keys.{W, far}
+use Rattle.table.specs.Table.{Table, ver, link, hasShape}
 use Rattle.table.specs.Sound.{Vacant, Home, Sound, isOdd, isHome, isWaiting, met, leads, steps, isSound}
-use Rattle.table.proofs.Facts.{Shape, shape-facts, facts-shape}
+use Rattle.table.proofs.Facts.{Shape, shape-facts}
 use Rattle.table.proofs.Chains.{Chain, chain-vacant, chain-once, chain-link, steps-met, leads-chain}
-use Rattle.table.proofs.Orderly.{Orderly, orderly, sound, odds-from, odd-count, free-walk}
+use Rattle.table.proofs.Orderly.{Orderly, orderly, sound, odds-from, free-walk}
 
 -- ---- the tests, as facts
 

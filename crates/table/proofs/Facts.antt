@@ -44,6 +44,17 @@ pub facts-shape : (t : Table) → Shape t → hasShape t ≡ true
 unfolding hasShape lengthsFit
 facts-shape t a = search (and-true, tests, at-most) depth 12
 
+-- the arrays of u are as long as those of t
+pub record SameLengths (t u : Table) : Type 0 where
+  pub klen : cap u ≡ cap t
+  pub vlen : length (u .versions) ≡ length (t .versions)
+  pub llen : length (u .links) ≡ length (t .links)
+  pub xlen : length (u .values) ≡ length (t .values)
+
+pub shape-like : (t u : Table) → Shape t → SameLengths t u → 1 ≤ u .head .s → u .head .s ≤ cap t + 1 → u .head .n < u .head .s → 1 ≤ u .head .f
+    → u .head .f ≤ u .head .s → Shape u
+shape-like t u a c sl sh nh fl fh = omega (arith, a, c)
+
 -- ---- live
 
 pub record Live (t : Table) (i v : ℕ) : Type 0 where

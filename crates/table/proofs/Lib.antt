@@ -5,3 +5,9 @@ pub mod Facts
 pub mod Chains
 pub mod Orderly
 pub mod Decides
+pub mod Leave
+pub mod Enter
+pub mod Cases
+pub mod Outcomes
+pub mod Sieve
+pub mod Keeps

@@ -1,7 +1,7 @@
 -- Soundness slot by slot: what the counts of `Sound` say of each single slot, with the free list at hand as a chain. No call then counts anything.
 -- `orderly` and `sound` show that the two say the same. Assumes nothing.
-use mathlib.Core.Path.{_≡_, refl, sym, ap, _∙_, subst}
-use mathlib.Core.Logic.{_≢_, _⊎_, inl, inr, by-cases, ⊎-elim}
+use mathlib.Core.Path.{_≡_, sym, ap, _∙_}
+use mathlib.Core.Logic.{_⊎_, inl, inr, ⊎-elim}
 use mathlib.Core.Bool.{true}
 use mathlib.Core.List.{List, List·Memᴰ}
 use Prim.Native.Nat.{ℕ, suc, _+_, _%_, _≤_, _<_}
@@ -11,7 +11,7 @@ use borrow.Author.Tests.{eqb-true, eq-eqb}
 use Rattle.lists.specs.Count.{count}
 use Rattle.lists.proofs.Count.{always, minus, always-true, minus-true, count-always, count-minus, count-inj, find-below}
 use Rattle.lists.proofs.Once.{once-count}
-use Rattle.keys.specs.Keys.{W, far, idx, vsn}
+use Rattle.keys.specs.Keys.{W, far, idx}
 use Rattle.table.specs.Table.{Table, ver, link, key}
 use Rattle.table.specs.Sound.{Vacant, Home, Sound, isOdd, met, stands, freeList, leads}
 use Rattle.table.proofs.Facts.{Shape, shape-facts, facts-shape}
@@ -29,6 +29,27 @@ pub record Orderly (t : Table) : Type 0 where
   pub free : List ℕ
   pub chain : Chain t (t .head .f) free
   pub evens : (i : ℕ) → Vacant t i → List·Memᴰ i free ⊎ (link t i ≡ far)
+
+-- a slot from 1 up that has an element
+pub record Occupied (t : Table) (i : ℕ) : Type 0 where
+  pub low : 1 ≤ i
+  pub high : i < t .head .s
+  pub odd : ver t i % 2 ≡ 1
+
+pub home-occupied : (t : Table) (p : ℕ) → Home t p → Occupied t (idx (key t p))
+home-occupied t p h = omega (arith, h)
+
+-- a place's key keeps its slot in another table, at the place r
+pub home-by : (t u : Table) (p r : ℕ) → Home t p → key u r ≡ key t p → t .head .s ≤ u .head .s → ver u (idx (key t p)) ≡ ver t (idx (key t p))
+    → link u (idx (key t p)) ≡ r → Home u r
+home-by t u p r h e s v l =
+    record {
+      low = rw e (h .low);
+      high = rw e (omega (arith, h .high));
+      same = rw e (v ∙ h .same);
+      odd = rw e (h .odd);
+      back = rw e l;
+    }
 
 -- ---- places and odd slots, counted
 
