@@ -15,7 +15,8 @@ use Rattle.table.specs.Table.{Table, ver, link, key, val, cap, isLive, d
 use Rattle.table.specs.Calls.{said-key, said-value, said-pair, said-done, refused, found, fails, placeIn, place, lookup, put, nextIn, next, inserted, insert, leaving, remove, detach, berthIn, berth, reattach, drain}
 use Rattle.table.specs.Sound.{Vacant, Home, Sound}
 use Rattle.table.specs.Sweeps.{retaining, retain, clearing, clear}
-use Rattle.table.proofs.Facts.{Live, facts-live, Detached, facts-detached}
+use Rattle.table.proofs.Judged.{Live}
+use Rattle.table.proofs.Facts.{facts-live, Detached, facts-detached}
 use Rattle.table.proofs.Orderly.{Occupied, home-occupied, orderly, room}
 use Rattle.table.proofs.Leave.{left-last, without, apart}
 use Rattle.table.proofs.Enter.{taken, grown, rejoined, head-free}

@@ -18,7 +18,7 @@ use Rattle.lists.proofs.Once.{mem-dec, once-count, count-once}
 use Rattle.keys.specs.Keys.{W, far}
 use Rattle.table.specs.Table.{Table, ver, link, hasShape}
 use Rattle.table.specs.Sound.{Vacant, Home, Sound, isOdd, isHome, isWaiting, met, leads, steps, isSound}
-use Rattle.table.proofs.Facts.{Shape, shape-facts}
+use Rattle.table.proofs.Shape.{Shape, shape}
 use Rattle.table.proofs.Chains.{Chain, chain-vacant, chain-once, chain-link, steps-met, leads-chain}
 use Rattle.table.proofs.Orderly.{Orderly, orderly, sound, odds-from, free-walk}
 
@@ -96,7 +96,7 @@ module _ (t : Table) (words : (i : ℕ) → i < t .head .s → ver t i < W) wher
   pub passes-sound : isSound t ≡ true → Sound t
   passes-sound h =
       let c = passed t h in
-      let s = shape-facts t (c .shape) in
+      let s = shape t (c .shape) in
       let home : (p : ℕ) → p < t .head .n → Home t p = λ p l. true-home t p (every-at (isHome t) (t .head .n) (c .home) p l) in
       let ch : Chain t (t .head .f) (met t (t .head .s) (t .head .f)) = leads-chain t (t .head .s) (t .head .f) (c .walk) in
       sound t (record {

@@ -1,48 +1,16 @@
--- The tests of the calls as facts, both ways: shape, live, detached. Assumes nothing.
+-- The tests of the calls as facts: shape after a call, live, detached. Assumes nothing.
 use mathlib.Core.Path.{_≡_}
 use mathlib.Core.Bool.{true, false}
-use Prim.Native.Nat.{ℕ, _+_, _-_, _≤_, _<_}
+use Prim.Native.Nat.{ℕ, _+_, _≤_, _<_}
 use native.Mathlib.Omega.{arith}
 use lib.ListN.{length}
 use Rattle.lists.proofs.Tests.{and-true, tests, parts, false-if}
 use Rattle.keys.specs.Keys.{far, up}
-use Rattle.table.specs.Table.{Table, ver, link, cap, limit, lengthsFit, hasShape, isLive, isDetached}
+use Rattle.table.specs.Table.{Table, ver, link, cap, isLive, isDetached}
+use Rattle.table.proofs.Shape.{Shape}
+use Rattle.table.proofs.Judged.{Live, live}
 
 -- ---- shape
-
--- every index and every place is below the link of a detached slot
-limit-small : limit + 1 < far
-limit-small = omega arith
-
-pub record Shape (t : Table) : Type 0 where
-  pub few : cap t ≤ limit
-  pub small : cap t + 1 < far
-  pub vlen : length (t .versions) ≡ cap t + 1
-  pub llen : length (t .links) ≡ cap t + 1
-  pub xlen : length (t .values) ≡ cap t
-  pub s-low : 1 ≤ t .head .s
-  pub s-high : t .head .s ≤ cap t + 1
-  pub n-high : t .head .n < t .head .s
-  pub f-low : 1 ≤ t .head .f
-  pub f-high : t .head .f ≤ t .head .s
-
-pub below-far : (c : ℕ) → c ≤ limit → c + 1 < far
-below-far c h = omega (arith, limit-small)
-
--- n ≤ s − 1 as a strict bound
-below : (n s : ℕ) → 1 ≤ s → n ≤ s - 1 → n < s
-below n s l h = omega arith
-
-at-most : (n s : ℕ) → n < s → n ≤ s - 1
-at-most n s h = omega arith
-
-pub shape-facts : (t : Table) → hasShape t ≡ true → Shape t
-unfolding hasShape lengthsFit
-shape-facts t h = search (parts, below, below-far) depth 12
-
-pub facts-shape : (t : Table) → Shape t → hasShape t ≡ true
-unfolding hasShape lengthsFit
-facts-shape t a = search (and-true, tests, at-most) depth 12
 
 -- the arrays of u are as long as those of t
 pub record SameLengths (t u : Table) : Type 0 where
@@ -57,21 +25,12 @@ shape-like t u a c sl sh nh fl fh = omega (arith, a, c)
 
 -- ---- live
 
-pub record Live (t : Table) (i v : ℕ) : Type 0 where
-  pub low : 1 ≤ i
-  pub high : i < t .head .s
-  pub same : ver t i ≡ v
-
-pub live-facts : (t : Table) (i v : ℕ) → isLive t i v ≡ true → Live t i v
-unfolding isLive
-live-facts t i v h = search parts
-
 pub facts-live : (t : Table) (i v : ℕ) → Live t i v → isLive t i v ≡ true
 unfolding isLive
 facts-live t i v a = search (and-true, tests)
 
 pub not-live : (t : Table) (i v : ℕ) → (Live t i v → ⊥) → isLive t i v ≡ false
-not-live t i v h = false-if _ (λ e. h (live-facts t i v e))
+not-live t i v h = false-if _ (λ e. h (live t i v e))
 
 -- ---- detached
 

@@ -2,19 +2,19 @@
 use mathlib.Core.Path.{_≡_, refl, ap, _∙_}
 use mathlib.Core.Bool.{true}
 use mathlib.Core.List.{List, [], _∷_}
-use Prim.Native.Nat.{ℕ, _+_, _≤_}
+use Prim.Native.Nat.{ℕ}
 use native.Mathlib.Omega.{arith}
-use lib.ListN.{length, getD, set, length-set}
+use lib.ListN.{getD, set, length-set}
 use lib.Seq.{getD-set-same}
-use Rattle.lists.proofs.Tests.{parts}
 use Rattle.keys.proofs.Keys.{version-odd, version-word}
 use Rattle.rules.specs.declared.Rule.{Rule}
-use Rattle.table.specs.Table.{Table, limit, lengthsFit, withValue}
+use Rattle.table.specs.Table.{Table, lengthsFit, withValue}
 use Rattle.table.specs.Calls.{Out, said-done, freshTable, put, insert, remove, detach, reattach, drain}
 use Rattle.table.specs.Sound.{Sound}
 use Rattle.table.specs.Sweeps.{retain, clear}
 use Rattle.table.specs.Steps.{Call, c-put, c-insert, c-remove, c-detach, c-reattach, c-drain, c-retain, c-clear, step, after}
-use Rattle.table.proofs.Facts.{shape-like, below-far}
+use Rattle.table.proofs.Shape.{lengths}
+use Rattle.table.proofs.Facts.{shape-like}
 use Rattle.table.proofs.Chains.{chain-frame}
 use Rattle.table.proofs.Orderly.{Orderly, home-by, orderly, sound}
 use Rattle.table.proofs.Leave.{without-orderly, apart-orderly}
@@ -25,16 +25,6 @@ use Rattle.table.proofs.Outcomes.{Outcome, outcome, refuses, looks, put
 
 -- ---- fresh
 
-record Lengths (vs ls ks xs : List ℕ) : Type 0 where
-  few : length ks ≤ limit
-  vlen : length vs ≡ length ks + 1
-  llen : length ls ≡ length ks + 1
-  xlen : length xs ≡ length ks
-
-lengths : (vs ls ks xs : List ℕ) → lengthsFit vs ls ks xs ≡ true → Lengths vs ls ks xs
-unfolding lengthsFit
-lengths vs ls ks xs h = search parts
-
 pub sound-fresh : (vs ls ks xs : List ℕ) → lengthsFit vs ls ks xs ≡ true → Sound (freshTable vs ls ks xs)
 unfolding freshTable
 sound-fresh vs ls ks xs fit =
@@ -43,8 +33,7 @@ sound-fresh vs ls ks xs fit =
     sound (freshTable vs ls ks xs) (record {
       shape =
           record {
-            few = h .few;
-            small = below-far _ (h .few);
+            small = h .small;
             vlen = length-set vs _ _ ∙ h .vlen;
             llen = length-set ls _ _ ∙ h .llen;
             xlen = h .xlen;
@@ -73,7 +62,7 @@ put-orderly t a p x =
     record {
       shape =
           shape-like t (withValue t p x) s (record { klen = refl; vlen = refl; llen = refl; xlen = length-set (t .values) p x })
-          (s .s-low) (s .s-high) (s .n-high) (s .f-low) (s .f-high);
+          (s .s-low) (s .s-high) (omega (arith, s)) (s .f-low) (s .f-high);
       zero-ver = a .zero-ver;
       zero-link = a .zero-link;
       word = a .word;

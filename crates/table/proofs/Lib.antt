@@ -1,6 +1,7 @@
--- Shape.antt is given and final: record Shape, laws shape / has-shape, limit-small
-pub mod Changes
 pub mod Shape
+pub mod Judged
+pub mod Judging
+pub mod Changes
 pub mod Facts
 pub mod Chains
 pub mod Orderly

@@ -14,7 +14,7 @@ use Rattle.lists.proofs.Once.{once-count}
 use Rattle.keys.specs.Keys.{W, far, idx}
 use Rattle.table.specs.Table.{Table, ver, link, key}
 use Rattle.table.specs.Sound.{Vacant, Home, Sound, isOdd, met, stands, freeList, leads}
-use Rattle.table.proofs.Facts.{Shape, shape-facts, facts-shape}
+use Rattle.table.proofs.Shape.{Shape, shape, has-shape}
 use Rattle.table.proofs.Chains.{Chain, chain-vacant, chain-once, chain-met, met-chain, times-in, once-times}
 
 pub record Orderly (t : Table) : Type 0 where
@@ -111,7 +111,7 @@ pub orderly : (t : Table) → Sound t → Orderly t
 unfolding freeList
 orderly t a =
     record {
-      shape = shape-facts t (a .shape);
+      shape = shape t (a .shape);
       zero-ver = a .zero-version;
       zero-link = a .zero-link;
       word = a .words;
@@ -140,7 +140,7 @@ module _ (t : Table) (a : Orderly t) where
   sound =
       let w = free-walk in
       record {
-        shape = facts-shape t (a .shape);
+        shape = has-shape t (a .shape);
         words = a .word;
         zero-version = a .zero-ver;
         zero-link = a .zero-link;

@@ -14,7 +14,9 @@ use Rattle.table.specs.Calls.{said-key, said-value, said-pair, said-done
 use Rattle.table.specs.Sound.{Sound}
 use Rattle.table.specs.Sweeps.{retaining, clearing}
 use Rattle.table.specs.Steps.{Call, c-lookup, c-put, c-insert, c-remove, c-detach, c-reattach, c-drain, c-retain, c-clear, step}
-use Rattle.table.proofs.Facts.{Shape, shape-facts, Live, live-facts, Detached, detached-facts}
+use Rattle.table.proofs.Shape.{Shape, shape}
+use Rattle.table.proofs.Judged.{Live, live}
+use Rattle.table.proofs.Facts.{Detached, detached-facts}
 use Rattle.table.proofs.Leave.{without, apart}
 use Rattle.table.proofs.Enter.{taken, grown, rejoined}
 use Rattle.table.proofs.Cases.{lookup-live, lookup-dead, put-live, put-dead, remove-live, remove-dead, detach-live, detach-dead, reattach-met, reattach-not, insert-taken, insert-grown, insert-full, drain-some, drain-none, retain-is, clear-is}
@@ -50,14 +52,14 @@ module _ (t : Table) (a : Sound t) where
   unfolding step
   outcome (c-lookup k) =
       split (isLive t (idx k) (version k))
-      (λ e. let l = live-facts t _ _ e in is _ _ (lookup-live t a k l) (looks k l))
+      (λ e. let l = live t _ _ e in is _ _ (lookup-live t a k l) (looks k l))
       (λ e. is _ _ (lookup-dead t a k e) (refuses (dead-lookup k e)))
   outcome (c-put k x) =
       split (isLive t (idx k) (version k))
-      (λ e. let l = live-facts t _ _ e in is _ _ (put-live t a k x l) (puts k x l))
+      (λ e. let l = live t _ _ e in is _ _ (put-live t a k x l) (puts k x l))
       (λ e. is _ _ (put-dead t a k x e) (refuses (dead-put k x e)))
   outcome (c-insert x) =
-      let s : Shape t = shape-facts t (a .shape) in
+      let s : Shape t = shape t (a .shape) in
       by-cases (decLt (t .head .f) (t .head .s))
       (λ h. is _ _ (insert-taken t a h x) (takes x h))
       (λ h.
@@ -67,11 +69,11 @@ module _ (t : Table) (a : Sound t) where
       (λ r. let c : t .head .s ≡ cap t + 1 = omega (arith, s, r) in is _ _ (insert-full t a e x c) (refuses (full x e c))))
   outcome (c-remove k) =
       split (isLive t (idx k) (version k))
-      (λ e. let l = live-facts t _ _ e in is _ _ (remove-live t a k l) (removes k l))
+      (λ e. let l = live t _ _ e in is _ _ (remove-live t a k l) (removes k l))
       (λ e. is _ _ (remove-dead t a k e) (refuses (dead-remove k e)))
   outcome (c-detach k) =
       split (isLive t (idx k) (version k))
-      (λ e. let l = live-facts t _ _ e in is _ _ (detach-live t a k l) (detaches k l))
+      (λ e. let l = live t _ _ e in is _ _ (detach-live t a k l) (detaches k l))
       (λ e. is _ _ (detach-dead t a k e) (refuses (dead-detach k e)))
   outcome (c-reattach k x) =
       split (isDetached t (idx k) (version k))
