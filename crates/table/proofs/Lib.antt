@@ -2,6 +2,7 @@ pub mod Shape
 pub mod Judged
 pub mod Judging
 pub mod Changes
+pub mod Readings
 pub mod Facts
 pub mod Chains
 pub mod Orderly
