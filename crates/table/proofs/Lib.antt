@@ -13,3 +13,5 @@ pub mod Cases
 pub mod Outcomes
 pub mod Sieve
 pub mod Keeps
+pub mod Follows
+pub mod Answers
