@@ -15,3 +15,4 @@ pub mod Sieve
 pub mod Keeps
 pub mod Follows
 pub mod Answers
+pub mod Begins
