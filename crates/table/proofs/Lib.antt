@@ -1,6 +1,11 @@
 pub mod Shape
 pub mod Judged
 pub mod Judging
+pub mod Refused
+pub mod Frames
+pub mod Places
+pub mod Only
+pub mod Runs
 pub mod Changes
 pub mod Readings
 pub mod Facts
