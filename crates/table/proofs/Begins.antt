@@ -137,10 +137,10 @@ fresh-begins vs ls ks xs fit =
 
 module _ (t : Table) (base : Reading) (b : Begins t base) where
   -- what is known of a key as read, in the base's words
-  base-value : (k : ℕ) → asRead k ≡ k → valueIn (base .live) k ≡ find t k
+  pub base-value : (k : ℕ) → asRead k ≡ k → valueIn (base .live) k ≡ find t k
   base-value k e = ap (valueIn (base .live)) (sym e) ∙ sym (b .finds k)
 
-  base-away : (k : ℕ) → asRead k ≡ k → isIn (base .detached) k ≡ away t k
+  pub base-away : (k : ℕ) → asRead k ≡ k → isIn (base .detached) k ≡ away t k
   base-away k e = ap (isIn (base .detached)) (sym e) ∙ sym (b .aways k)
 
   begins-new : (c : Change) → Fits t c → Starts c base

@@ -14,7 +14,8 @@ use Rattle.table.specs.declared.Header.{Header}
 use Rattle.table.specs.Table.{Table, ver, link, key, val, cap, takenHead, grownHead, rejoinedHead, entered}
 use Rattle.table.specs.Sound.{Vacant, Home}
 use Rattle.table.proofs.Shape.{Shape}
-use Rattle.table.proofs.Facts.{SameLengths, shape-like}
+use Rattle.table.proofs.Frames.{SameLengths}
+use Rattle.table.proofs.Facts.{shape-like}
 use Rattle.table.proofs.Chains.{Chain, chain-frame, chain-head, chain-link}
 use Rattle.table.proofs.Orderly.{Orderly, Occupied, home-by, home-occupied, room}
 
@@ -113,7 +114,7 @@ unfolding entered
 entered-enters t i v x head′ a hi hn e =
     record {
       count = e;
-      lengths = record { klen = length-set (t .keys) _ _; vlen = length-set (t .versions) _ _; llen = length-set (t .links) _ _; xlen = length-set (t .values) _ _ };
+      lengths = (length-set (t .versions) _ _, length-set (t .links) _ _, length-set (t .keys) _ _, length-set (t .values) _ _);
       ver-at = getD-set-same (t .versions) i _ 0 (omega (arith, a .vlen));
       ver-off = λ k ne. getD-set-other (t .versions) i k _ 0 ne;
       link-at = getD-set-same (t .links) i _ 0 (omega (arith, a .llen));

@@ -3,21 +3,14 @@ use mathlib.Core.Path.{_≡_}
 use mathlib.Core.Bool.{true, false}
 use Prim.Native.Nat.{ℕ, _+_, _≤_, _<_}
 use native.Mathlib.Omega.{arith}
-use lib.ListN.{length}
 use Rattle.lists.proofs.Tests.{and-true, tests, parts, false-if}
 use Rattle.keys.specs.Keys.{far, up}
 use Rattle.table.specs.Table.{Table, ver, link, cap, isLive, isDetached}
 use Rattle.table.proofs.Shape.{Shape}
 use Rattle.table.proofs.Judged.{Live, live}
+use Rattle.table.proofs.Frames.{SameLengths}
 
 -- ---- shape
-
--- the arrays of u are as long as those of t
-pub record SameLengths (t u : Table) : Type 0 where
-  pub klen : cap u ≡ cap t
-  pub vlen : length (u .versions) ≡ length (t .versions)
-  pub llen : length (u .links) ≡ length (t .links)
-  pub xlen : length (u .values) ≡ length (t .values)
 
 pub shape-like : (t u : Table) → Shape t → SameLengths t u → 1 ≤ u .head .s → u .head .s ≤ cap t + 1 → u .head .n < u .head .s → 1 ≤ u .head .f
     → u .head .f ≤ u .head .s → Shape u

@@ -61,7 +61,7 @@ put-orderly t a p x =
     let s = a .shape in
     record {
       shape =
-          shape-like t (withValue t p x) s (record { klen = refl; vlen = refl; llen = refl; xlen = length-set (t .values) p x })
+          shape-like t (withValue t p x) s (refl, refl, refl, length-set (t .values) p x)
           (s .s-low) (s .s-high) (omega (arith, s)) (s .f-low) (s .f-high);
       zero-ver = a .zero-ver;
       zero-link = a .zero-link;

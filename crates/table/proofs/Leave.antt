@@ -17,7 +17,8 @@ use Rattle.table.specs.declared.Header.{Header}
 use Rattle.table.specs.Table.{Table, ver, link, key, val, last, lastIdx, freedHead, partedHead, freed, filled, left}
 use Rattle.table.specs.Sound.{Vacant, Home}
 use Rattle.table.proofs.Shape.{Shape}
-use Rattle.table.proofs.Facts.{SameLengths, shape-like}
+use Rattle.table.proofs.Frames.{SameLengths}
+use Rattle.table.proofs.Facts.{shape-like}
 use Rattle.table.proofs.Chains.{Chain, chain-vacant, chain-frame}
 use Rattle.table.proofs.Orderly.{Orderly, Occupied, home-by}
 
@@ -202,13 +203,12 @@ module _ (t : Table) (a : Orderly t) (i l : ℕ) (head′ : Header) (oi : Occupi
       rw (left-is t i l head′, hn) (record {
         count = omega arith;
         slots = hs;
-        lengths =
-            record {
-              klen = moved-length (eqb (link t i) (last t)) (t .keys) _ _;
-              vlen = length-set (t .versions) _ _;
-              llen = two-length (eqb (link t i) (last t)) (t .links) _ _ _ _;
-              xlen = moved-length (eqb (link t i) (last t)) (t .values) _ _;
-            };
+        lengths = (
+          length-set (t .versions) _ _,
+          two-length (eqb (link t i) (last t)) (t .links) _ _ _ _,
+          moved-length (eqb (link t i) (last t)) (t .keys) _ _,
+          moved-length (eqb (link t i) (last t)) (t .values) _ _,
+        );
         ver-at = getD-set-same (t .versions) i _ 0 (omega (arith, s, oi));
         ver-off = λ k ne. getD-set-other (t .versions) i k _ 0 ne;
         link-moved = λ ne. two-second (eqb (link t i) (last t)) (t .links) i _ l _ same-place ne (omega (arith, s));

@@ -21,3 +21,4 @@ pub mod Keeps
 pub mod Follows
 pub mod Answers
 pub mod Begins
+pub mod Promises
