@@ -82,13 +82,22 @@ module _ (t : Table) (a : Sound t) where
         let e : key t (link t (idx k)) ≡ pack (idx k) (version k) = omega (arith, o .1, h .same, ap (ver t) (o .1), l .same) in
         and-true (lt-ltb _ _ (o .0)) (eq-eqb _ _ e)
 
+    -- the judgements
+    pub place-in-live : Live t (idx k) (version k) → placeIn t (idx k) (version k) ≡ found (link t (idx k))
+    unfolding placeIn
+    place-in-live l = rw (facts-live t _ _ l, held-yes l)
+
+    pub place-in-dead : isLive t (idx k) (version k) ≡ false → placeIn t (idx k) (version k) ≡ fails (dead t (idx k) (version k))
+    unfolding placeIn
+    place-in-dead e = rw e
+
     place-live : Live t (idx k) (version k) → place t k ≡ found (link t (idx k))
-    unfolding place placeIn
-    place-live l = rw (a .shape, facts-live t _ _ l, held-yes l)
+    unfolding place
+    place-live l = rw (a .shape, place-in-live l)
 
     place-dead : isLive t (idx k) (version k) ≡ false → place t k ≡ fails (dead t (idx k) (version k))
-    unfolding place placeIn
-    place-dead e = rw (a .shape, e)
+    unfolding place
+    place-dead e = rw (a .shape, place-in-dead e)
 
     leaving-live : Live t (idx k) (version k) → leaving t k ≡ found (link t (idx k))
     unfolding leaving

@@ -22,3 +22,4 @@ pub mod Follows
 pub mod Answers
 pub mod Begins
 pub mod Promises
+pub mod Undamaged
