@@ -8,7 +8,7 @@ use lib.ListN.{getD, set, length-set}
 use lib.Seq.{getD-set-same}
 use Rattle.keys.proofs.Keys.{version-odd, version-word}
 use Rattle.rules.specs.declared.Rule.{Rule}
-use Rattle.table.specs.Table.{Table, lengthsFit, withValue}
+use Rattle.table.specs.Table.{Table, cap, last, lengthsFit, withValue}
 use Rattle.table.specs.Calls.{Out, said-done, freshTable, put, insert, remove, detach, reattach, drain}
 use Rattle.table.specs.Sound.{Sound}
 use Rattle.table.specs.Sweeps.{retain, clear}
@@ -17,10 +17,10 @@ use Rattle.table.proofs.Shape.{lengths}
 use Rattle.table.proofs.Facts.{shape-like}
 use Rattle.table.proofs.Chains.{chain-frame}
 use Rattle.table.proofs.Orderly.{Orderly, home-by, orderly, sound}
-use Rattle.table.proofs.Leave.{without-orderly, apart-orderly}
-use Rattle.table.proofs.Enter.{taken-orderly, grown-orderly, rejoined-orderly}
+use Rattle.table.proofs.Leave.{without-leaves, without-orderly, apart-leaves, apart-orderly}
+use Rattle.table.proofs.Enter.{taken-enters, taken-orderly, grown-enters, grown-orderly, rejoined-enters, rejoined-orderly}
 use Rattle.table.proofs.Cases.{live-occupied, detached-vacant, stored-occupied, drain-none, clear-is}
-use Rattle.table.proofs.Sieve.{retained, cleared}
+use Rattle.table.proofs.Sieve.{dropped-leaves, retained, cleared}
 use Rattle.table.proofs.Outcomes.{Outcome, outcome, refuses, looks, puts, takes, grows, removes, detaches, reattaches, drains, done, retains, clears}
 
 -- ---- fresh
@@ -136,9 +136,31 @@ module _ (t : Table) (a : Sound t) where
   pub drain-clear : drain (clear t .1) .0 ≡ said-done
   drain-clear = ap (λ (r : Out). r .0) (drain-none (clear t .1) sound-clear clear-empty)
 
+-- ---- C stays
+
+outcome-cap : (t : Table) → Sound t → (c : Call) (r : Out) → Outcome t c r → cap (r .1) ≡ cap t
+unfolding withValue
+outcome-cap t a c r (refuses e) = refl
+outcome-cap t a c r (looks k l) = refl
+outcome-cap t a c r (puts k x l) = refl
+outcome-cap t a c r (takes x h) = taken-enters t (orderly t a) x h .lengths .2
+outcome-cap t a c r (grows x h e) = grown-enters t (orderly t a) x h e .lengths .2
+outcome-cap t a c r (removes k l) = without-leaves t (orderly t a) _ (live-occupied t a k l) .lengths .2
+outcome-cap t a c r (detaches k l) = apart-leaves t (orderly t a) _ (live-occupied t a k l) .lengths .2
+outcome-cap t a c r (reattaches k x d) = rejoined-enters t (orderly t a) _ _ x (detached-vacant t a k d) (d .away) .lengths .2
+outcome-cap t a c r (drains h) = dropped-leaves t a (last t) (omega arith) .lengths .2
+outcome-cap t a c r (done h) = refl
+outcome-cap t a c r (retains rule) = retained _ (λ u w. cap w ≡ cap u) (λ u b _. refl) (λ u w p b l n e. e ∙ dropped-leaves u b p l .lengths .2) t a
+outcome-cap t a c r clears = cleared (λ u w. cap w ≡ cap u) (λ u b _. refl) (λ u w p b l e. e ∙ dropped-leaves u b p l .lengths .2) t a
+
 -- ---- any list of calls
 
 pub sound-after : (t : Table) → Sound t → (cs : List Call) → Sound (after t cs)
 unfolding after
 sound-after t a [] = a
 sound-after t a (c ∷ cs) = sound-step (after t cs) (sound-after t a cs) c
+
+pub cap-after : (t : Table) → Sound t → (cs : List Call) → cap (after t cs) ≡ cap t
+unfolding after
+cap-after t a [] = refl
+cap-after t a (c ∷ cs) = let u = sound-after t a cs in outcome-cap (after t cs) u c (step (after t cs) c) (outcome (after t cs) u c) ∙ cap-after t a cs

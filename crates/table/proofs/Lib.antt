@@ -23,3 +23,6 @@ pub mod Answers
 pub mod Begins
 pub mod Promises
 pub mod Undamaged
+pub mod Own
+pub mod Full
+pub mod Counted

@@ -1,7 +1,6 @@
 -- Theorem G on a sound table: no call answers 5. Assumes nothing.
-use mathlib.Core.Path.{_≡_, refl, sym, ap, _∙_}
+use mathlib.Core.Path.{_≡_, refl, ap, _∙_}
 use mathlib.Core.Logic.{_≢_}
-use mathlib.Core.Bool.{Bool, true, false}
 use mathlib.Core.List.{List, [], _∷_}
 use Prim.Native.Nat.{ℕ}
 use native.Mathlib.Omega.{arith}
@@ -9,7 +8,7 @@ use lib.Dec.{leb}
 use lib.ListN.{length}
 use Rattle.lists.proofs.Tests.{split}
 use Rattle.keys.specs.Keys.{idx, version, asRead}
-use Rattle.table.specs.Table.{Table, hasShape, isLive, dead}
+use Rattle.table.specs.Table.{Table, isLive, dead}
 use Rattle.table.specs.Calls.{Said, said-key, said-value, said-pair, said-done, said-count, said-truth, refused, Out, Judged, found, fails, placeIn, nextKey}
 use Rattle.table.specs.Sound.{Sound}
 use Rattle.table.specs.Sweeps.{Places, places, bars, placed, among, placesOf, given, disjoint}
