@@ -1,8 +1,10 @@
 -- What each call comes to on a sound table, one equation for each outcome: refusals 1 and 5 never happen there. Assumes nothing.
 use mathlib.Core.Path.{_≡_, refl, sym, ap, _∙_}
+use mathlib.Core.Logic.{by-cases}
 use mathlib.Core.Bool.{true, false}
 use Prim.Native.Nat.{ℕ, _+_, _-_, _≤_, _<_}
 use native.Mathlib.Omega.{arith}
+use native.Mathlib.Decide.{decLt}
 use lib.Dec.{ltb}
 use borrow.Author.Tests.{lt-ltb, le-ltb, le-leb, lt-leb, eq-eqb, ne-eqb}
 use Rattle.lists.proofs.Tests.{and-true, tests}
@@ -15,6 +17,7 @@ use Rattle.table.specs.Table.{Table, ver, link, key, val, cap, isLive, d
 use Rattle.table.specs.Calls.{said-key, said-value, said-pair, said-done, refused, found, fails, placeIn, place, lookup, put, nextIn, next, inserted, insert, leaving, remove, detach, berthIn, berth, reattach, drain}
 use Rattle.table.specs.Sound.{Vacant, Home, Sound}
 use Rattle.table.specs.Sweeps.{retaining, retain, clearing, clear}
+use Rattle.table.proofs.Shape.{shape}
 use Rattle.table.proofs.Judged.{Live}
 use Rattle.table.proofs.Facts.{facts-live, Detached, facts-detached}
 use Rattle.table.proofs.Orderly.{Occupied, home-occupied, orderly, room}
@@ -164,7 +167,16 @@ module _ (t : Table) (a : Sound t) where
     unfolding reattach
     reattach-not x e = rw (berth-not e)
 
-  -- ---- insert
+  -- ---- insert: into the free head, into a new slot, or refused
+
+  pub insert-ways {ℓ} : {A : Type ℓ} → (t .head .f < t .head .s → A) → (t .head .f ≡ t .head .s → t .head .s ≤ cap t → A)
+      → (t .head .f ≡ t .head .s → t .head .s ≡ cap t + 1 → A) → A
+  insert-ways takes grows full =
+      let s = shape t (a .shape) in
+      by-cases (decLt (t .head .f) (t .head .s)) takes
+      (λ h.
+      let e : t .head .f ≡ t .head .s = omega (arith, s, h) in
+      by-cases (decLt (t .head .s) (cap t + 1)) (λ c. grows e (omega arith)) (λ c. full e (omega (arith, s, c))))
 
   module _ (h : t .head .f < t .head .s) where
     free-odd : odd (ver t (t .head .f)) ≡ ver t (t .head .f) + 1

@@ -27,7 +27,7 @@ use Rattle.table.proofs.Facts.{detached-facts}
 use Rattle.table.proofs.Keeps.{cap-after}
 use Rattle.table.proofs.Follows.{find-live, find-dead}
 use Rattle.table.proofs.Begins.{Begins, base-value, base-away, begins-after}
-use Rattle.table.proofs.Own.{own, live-own, away-own}
+use Rattle.table.proofs.Clock.{own, live-own, away-own}
 use Rattle.table.proofs.Full.{Used, full-iff}
 
 module _ (t : Table) (base : Reading) (b : Begins t base) where
@@ -95,7 +95,6 @@ module _ (t : Table) (base : Reading) (b : Begins t base) where
       (u .2)
 
   own-idx : (i : ℕ) → i < W → idx (own t i) ≡ i
-  unfolding own
   own-idx i h = idx-pack i _ h
 
   -- ---- counting: the known keys go to different indexes from 1 to C

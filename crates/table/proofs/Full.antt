@@ -6,7 +6,7 @@ use mathlib.Core.Bool.{true}
 use mathlib.Core.List.{List, [], _∷_, List·Memᴰ, List·Memᴰ·not-nil}
 use Prim.Native.Nat.{ℕ, _+_, _%_, _≤_, _<_}
 use native.Mathlib.Omega.{arith}
-use native.Mathlib.Decide.{ℕ-discrete, decLt}
+use native.Mathlib.Decide.{ℕ-discrete}
 use Rattle.keys.specs.Keys.{W, far, idx, pack, version, down}
 use Rattle.keys.proofs.Keys.{version-odd, version-pack, idx-pack}
 use Rattle.keys.proofs.Versions.{up-down}
@@ -19,7 +19,7 @@ use Rattle.table.proofs.Facts.{facts-live, detached-facts, facts-detach
 use Rattle.table.proofs.Chains.{Chain}
 use Rattle.table.proofs.Orderly.{Orderly, orderly}
 use Rattle.table.proofs.Enter.{head-free}
-use Rattle.table.proofs.Cases.{insert-taken, insert-grown, insert-full}
+use Rattle.table.proofs.Cases.{insert-ways, insert-taken, insert-grown, insert-full}
 
 -- a key of index i is live or detached
 abbrev pub Used : Table → ℕ → Type 0
@@ -64,20 +64,15 @@ module _ (t : Table) (a : Sound t) where
 
   pub full-iff : (x : ℕ) → (insert t x .0 ≡ refused 3) ↔ ((i : ℕ) → 1 ≤ i → i ≤ cap t → Used t i)
   full-iff x =
-      by-cases (decLt (t .head .f) (t .head .s))
+      insert-ways t a
       (λ h.
       let p : insert t x .0 ≡ said-key (pack (t .head .f) (ver t (t .head .f) + 1)) = ap (λ (r : Out). r .0) (insert-taken t a h x) in (
         (λ q. let z : _≡_ {A = ℕ} 0 1 = cc in absurd (omega arith)),
         λ all. absurd (free-unused h (all (t .head .f) (s .f-low) (omega (arith, s)))),
       ))
-      (λ h.
-      let g : t .head .f ≡ t .head .s = omega (arith, s, h) in
-      by-cases (decLt (t .head .s) (cap t + 1))
-      (λ c.
-      let p : insert t x .0 ≡ said-key (pack (t .head .s) 1) = ap (λ (r : Out). r .0) (insert-grown t a g x (omega arith)) in (
+      (λ g c.
+      let p : insert t x .0 ≡ said-key (pack (t .head .s) 1) = ap (λ (r : Out). r .0) (insert-grown t a g x c) in (
         (λ q. let z : _≡_ {A = ℕ} 0 1 = cc in absurd (omega arith)),
-        λ all. absurd (new-unused (all (t .head .s) (s .s-low) (omega arith))),
+        λ all. absurd (new-unused (all (t .head .s) (s .s-low) c)),
       ))
-      (λ c.
-      let e : t .head .s ≡ cap t + 1 = omega (arith, s, c) in
-      ((λ q i lo hi. slot-used g i lo (omega (arith, hi, e))), λ all. ap (λ (r : Out). r .0) (insert-full t a g x e))))
+      (λ g e. ((λ q i lo hi. slot-used g i lo (omega (arith, hi, e))), λ all. ap (λ (r : Out). r .0) (insert-full t a g x e)))

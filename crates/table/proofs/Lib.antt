@@ -23,6 +23,7 @@ pub mod Answers
 pub mod Begins
 pub mod Promises
 pub mod Undamaged
-pub mod Own
+pub mod Clock
 pub mod Full
 pub mod Counted
+pub mod Turns

@@ -14,12 +14,11 @@ use Rattle.table.specs.Calls.{said-key, said-value, said-pair, said-done
 use Rattle.table.specs.Sound.{Sound}
 use Rattle.table.specs.Sweeps.{retaining, clearing}
 use Rattle.table.specs.Steps.{Call, c-lookup, c-put, c-insert, c-remove, c-detach, c-reattach, c-drain, c-retain, c-clear, step}
-use Rattle.table.proofs.Shape.{Shape, shape}
 use Rattle.table.proofs.Judged.{Live, live}
 use Rattle.table.proofs.Facts.{Detached, detached-facts}
 use Rattle.table.proofs.Leave.{without, apart}
 use Rattle.table.proofs.Enter.{taken, grown, rejoined}
-use Rattle.table.proofs.Cases.{lookup-live, lookup-dead, put-live, put-dead, remove-live, remove-dead, detach-live, detach-dead, reattach-met, reattach-not, insert-taken, insert-grown, insert-full, drain-some, drain-none, retain-is, clear-is}
+use Rattle.table.proofs.Cases.{lookup-live, lookup-dead, put-live, put-dead, remove-live, remove-dead, detach-live, detach-dead, reattach-met, reattach-not, insert-ways, insert-taken, insert-grown, insert-full, drain-some, drain-none, retain-is, clear-is}
 
 -- why a call is refused, and the number
 pub data Refusal (t : Table) : Call → ℕ → Type 0 where
@@ -59,14 +58,10 @@ module _ (t : Table) (a : Sound t) where
       (λ e. let l = live t _ _ e in is _ _ (put-live t a k x l) (puts k x l))
       (λ e. is _ _ (put-dead t a k x e) (refuses (dead-put k x e)))
   outcome (c-insert x) =
-      let s : Shape t = shape t (a .shape) in
-      by-cases (decLt (t .head .f) (t .head .s))
+      insert-ways t a
       (λ h. is _ _ (insert-taken t a h x) (takes x h))
-      (λ h.
-      let e : t .head .f ≡ t .head .s = omega (arith, s, h) in
-      by-cases (decLt (t .head .s) (cap t + 1))
-      (λ r. let c : t .head .s ≤ cap t = omega arith in is _ _ (insert-grown t a e x c) (grows x e c))
-      (λ r. let c : t .head .s ≡ cap t + 1 = omega (arith, s, r) in is _ _ (insert-full t a e x c) (refuses (full x e c))))
+      (λ e c. is _ _ (insert-grown t a e x c) (grows x e c))
+      (λ e c. is _ _ (insert-full t a e x c) (refuses (full x e c)))
   outcome (c-remove k) =
       split (isLive t (idx k) (version k))
       (λ e. let l = live t _ _ e in is _ _ (remove-live t a k l) (removes k l))
