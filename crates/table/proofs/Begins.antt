@@ -7,24 +7,25 @@ use mathlib.Core.List.{List, [], _∷_, List·Memᴰ, List·Memᴰ·not-nil, Lis
 use mathlib.Core.Option.{none, some}
 use Prim.Native.Nat.{ℕ, _+_, _%_, _<_}
 use native.Mathlib.Omega.{arith}
+use Rattle.lists.proofs.Tests.{split}
 use Rattle.lists.proofs.Once.{Once, once-nil, sublist-mem}
 use Rattle.keys.specs.Keys.{W, idx, pack, version, asRead}
 use Rattle.keys.proofs.Keys.{version-odd, idx-pack, read-pack, version-pack, read-read}
-use Rattle.table.specs.Table.{Table, ver, link, key, val, lengthsFit, isDetached, last}
+use Rattle.table.specs.Table.{Table, ver, link, key, val, lengthsFit, isLive, isDetached, last}
 use Rattle.table.specs.Calls.{Out, freshTable}
 use Rattle.table.specs.Sound.{Sound}
 use Rattle.table.specs.Steps.{Call, step, after, history}
 use Rattle.table.specs.Reading.{Change, nothing, issued, returned, revalued, dies, parts, sieved, change, Reading, blank, changed, reading, valueIn, isIn}
 use Rattle.table.proofs.Changes.{livesAfter, detachedAfter}
-use Rattle.table.proofs.Readings.{keysOf, value-changed, detached-changed, Begins as Starts, once-changed, once-detached, without-sublist, sifted-sublist, valued-sublist, except-sublist}
-use Rattle.table.proofs.Judged.{Live}
-use Rattle.table.proofs.Facts.{Detached, facts-detached, not-detached}
+use Rattle.table.proofs.Readings.{keysOf, mem-value, mem-in, value-changed, detached-changed, Begins as Starts, once-changed, once-detached, without-sublist, sifted-sublist, valued-sublist, except-sublist}
+use Rattle.table.proofs.Judged.{Live, live}
+use Rattle.table.proofs.Facts.{Detached, detached-facts, facts-detached, not-detached}
 use Rattle.table.proofs.Orderly.{Orderly, orderly}
 use Rattle.table.proofs.Enter.{head-free}
 use Rattle.table.proofs.Cases.{stored-read, stored-live}
 use Rattle.table.proofs.Outcomes.{Outcome, outcome, refuses, looks, puts, takes, grows, removes, detaches, reattaches, drains, done, retains, clears}
 use Rattle.table.proofs.Keeps.{sound-fresh, sound-step}
-use Rattle.table.proofs.Follows.{find, away, find-live, find-not, find-read, away-read}
+use Rattle.table.proofs.Follows.{find, away, find-live, find-dead, find-not, find-read, away-read}
 use Rattle.table.proofs.Answers.{change-refused, step-follows}
 
 -- ---- what a change says of the key that it names
@@ -142,6 +143,19 @@ module _ (t : Table) (base : Reading) (b : Begins t base) where
 
   pub base-away : (k : ℕ) → asRead k ≡ k → isIn (base .detached) k ≡ away t k
   base-away k e = ap (isIn (base .detached)) (sym e) ∙ sym (b .aways k)
+
+  -- each key of the base is live or detached in the table
+  pub base-live : (k : ℕ) → List·Memᴰ k (keysOf (base .live)) → Live t (idx k) (version k)
+  base-live k m =
+      let v = mem-value (base .live) k m in
+      split (isLive t (idx k) (version k)) (live t _ _)
+      (λ e.
+      let q : some (v .0) ≡ none = sym (v .1) ∙ base-value k (b .live-read k m) ∙ find-dead t k e in
+      let z : _≡_ {A = ℕ} 0 1 = cc in
+      absurd (omega arith))
+
+  pub base-detached : (k : ℕ) → List·Memᴰ k (base .detached) → Detached t (idx k) (version k)
+  base-detached k m = detached-facts t _ _ (sym (base-away k (b .detached-read k m)) ∙ mem-in (base .detached) k m)
 
   begins-new : (c : Change) → Fits t c → Starts c base
   begins-new nothing f = tt

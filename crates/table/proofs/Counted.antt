@@ -4,29 +4,28 @@ use mathlib.Core.Path.{_≡_, refl, sym, ap, _∙_, subst}
 use mathlib.Core.Logic.{inl, inr, by-cases, ⊎-elim, _↔_}
 use mathlib.Core.Bool.{true, false}
 use mathlib.Core.List.{List, _++_, List·Memᴰ, List·Memᴰ·append-cases, Memᴰ·append-left, Memᴰ·append-right, Memᴰ·cast}
-use mathlib.Core.Option.{some, none}
 use Prim.Native.Nat.{ℕ, suc, _+_, _≤_, _<_}
 use native.Mathlib.Omega.{arith}
 use native.Mathlib.Decide.{ℕ-discrete}
 use borrow.Author.Tests.{eq-eqb}
 use lib.ListN.{length, getD, length-append}
 use Rattle.lists.specs.Count.{count}
-use Rattle.lists.proofs.Tests.{split, true-false}
+use Rattle.lists.proofs.Tests.{true-false}
 use Rattle.lists.proofs.Count.{always, minus, always-true, minus-true, count-always, count-minus, count-inj}
 use Rattle.lists.proofs.Once.{Once, once-append, getD-mem, once-inj, place, place-at, mem-dec}
 use Rattle.keys.specs.Keys.{W, idx, version}
 use Rattle.keys.proofs.Keys.{idx-pack}
-use Rattle.table.specs.Table.{Table, cap, isLive, isDetached}
+use Rattle.table.specs.Table.{Table, cap, isDetached}
 use Rattle.table.specs.Calls.{refused, insert}
 use Rattle.table.specs.Steps.{Call, after, history}
 use Rattle.table.specs.Reading.{Reading, reading}
-use Rattle.table.proofs.Readings.{keysOf, length-keys, mem-value, value-mem, mem-in, in-mem}
+use Rattle.table.proofs.Readings.{keysOf, length-keys, value-mem, in-mem}
 use Rattle.table.proofs.Shape.{Shape, shape}
 use Rattle.table.proofs.Judged.{Live, live}
-use Rattle.table.proofs.Facts.{detached-facts}
+use Rattle.table.proofs.Facts.{facts-live, detached-facts, facts-detached}
 use Rattle.table.proofs.Keeps.{cap-after}
-use Rattle.table.proofs.Follows.{find-live, find-dead}
-use Rattle.table.proofs.Begins.{Begins, base-value, base-away, begins-after}
+use Rattle.table.proofs.Follows.{find-live}
+use Rattle.table.proofs.Begins.{Begins, base-live, base-detached, begins-after}
 use Rattle.table.proofs.Clock.{own, live-own, away-own}
 use Rattle.table.proofs.Full.{Used, full-iff}
 
@@ -37,24 +36,11 @@ module _ (t : Table) (base : Reading) (b : Begins t base) where
   known : List ℕ
   known = keysOf (base .live) ++ base .detached
 
-  -- a key that the base has is live or detached
-  live-is : (k : ℕ) → List·Memᴰ k (keysOf (base .live)) → isLive t (idx k) (version k) ≡ true
-  live-is k m =
-      let v = mem-value (base .live) k m in
-      split (isLive t (idx k) (version k)) (λ e. e)
-      (λ e.
-      let q : some (v .0) ≡ none = sym (v .1) ∙ base-value t base b k (b .live-read k m) ∙ find-dead t k e in
-      let z : _≡_ {A = ℕ} 0 1 = cc in
-      absurd (omega arith))
-
-  away-is : (k : ℕ) → List·Memᴰ k (base .detached) → isDetached t (idx k) (version k) ≡ true
-  away-is k m = sym (base-away t base b k (b .detached-read k m)) ∙ mem-in (base .detached) k m
-
   pub live-own-key : (k : ℕ) → List·Memᴰ k (keysOf (base .live)) → k ≡ own t (idx k)
-  live-own-key k m = sym (b .live-read k m) ∙ live-own t k (live t _ _ (live-is k m))
+  live-own-key k m = sym (b .live-read k m) ∙ live-own t k (base-live t base b k m)
 
   away-own-key : (k : ℕ) → List·Memᴰ k (base .detached) → k ≡ own t (idx k)
-  away-own-key k m = sym (b .detached-read k m) ∙ away-own t k (detached-facts t _ _ (away-is k m))
+  away-own-key k m = sym (b .detached-read k m) ∙ away-own t k (base-detached t base b k m)
 
   known-own : (k : ℕ) → List·Memᴰ k known → k ≡ own t (idx k)
   unfolding known
@@ -62,7 +48,7 @@ module _ (t : Table) (base : Reading) (b : Begins t base) where
 
   known-used : (k : ℕ) → List·Memᴰ k known → Used t (idx k)
   unfolding known
-  known-used k m = (k, refl, ⊎-elim (λ l. inl (live-is k l)) (λ d. inr (away-is k d)) (List·Memᴰ·append-cases (keysOf (base .live)) m))
+  known-used k m = (k, refl, ⊎-elim (λ l. inl (facts-live t _ _ (base-live t base b k l))) (λ d. inr (facts-detached t _ _ (base-detached t base b k d))) (List·Memᴰ·append-cases (keysOf (base .live)) m))
 
   known-in : (k : ℕ) → List·Memᴰ k known → (1 ≤ idx k) × (idx k ≤ cap t)
   known-in k m =
@@ -76,7 +62,7 @@ module _ (t : Table) (base : Reading) (b : Begins t base) where
   unfolding known
   known-once =
       once-append (keysOf (base .live)) (base .detached) (b .live-once) (b .detached-once)
-      (λ k l d. let f = live t _ _ (live-is k l) in let g = detached-facts t _ _ (away-is k d) in omega (arith, f .same, g .same))
+      (λ k l d. let f = base-live t base b k l in let g = base-detached t base b k d in omega (arith, f .same, g .same))
 
   -- the key of a used index is among them
   used-known : (i : ℕ) → Used t i → List·Memᴰ (own t i) known

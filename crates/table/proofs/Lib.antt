@@ -27,3 +27,4 @@ pub mod Clock
 pub mod Full
 pub mod Counted
 pub mod Turns
+pub mod Reissue
