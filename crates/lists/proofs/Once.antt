@@ -2,7 +2,7 @@
 use mathlib.Core.Path.{_≡_, refl, sym, ap, _∙_}
 use mathlib.Core.Logic.{by-cases, ⊎-elim}
 use mathlib.Core.Bool.{Bool, true, cond}
-use mathlib.Core.List.{List, [], _∷_, List·Memᴰ, List·Memᴰ·head, List·Memᴰ·tail, List·Memᴰ·cases-cons, List·Memᴰ·not-nil, Memᴰ·cast, Sublistᴰ, Sublistᴰ·slnil, Sublistᴰ·cons, Sublistᴰ·cons-cons}
+use mathlib.Core.List.{List, [], _∷_, _++_, List·Memᴰ, List·Memᴰ·append-cases, List·Memᴰ·head, List·Memᴰ·tail, List·Memᴰ·cases-cons, List·Memᴰ·not-nil, Memᴰ·cast, Sublistᴰ, Sublistᴰ·slnil, Sublistᴰ·cons, Sublistᴰ·cons-cons}
 use Prim.Native.Nat.{ℕ, zero, suc, _≤_, _<_}
 use native.Mathlib.Omega.{arith}
 use native.Mathlib.Decide.{ℕ-discrete}
@@ -31,6 +31,12 @@ once-cons x xs h o = (h, o)
 pub once-nil : Once []
 unfolding Once
 once-nil = tt
+
+pub once-append : (xs ys : List ℕ) → Once xs → Once ys → ((x : ℕ) → List·Memᴰ x xs → List·Memᴰ x ys → ⊥) → Once (xs ++ ys)
+once-append [] ys o q h = q
+once-append (x ∷ xs) ys o q h =
+    once-cons x (xs ++ ys) (λ m. ⊎-elim (once-head x xs o) (h x (List·Memᴰ·head refl)) (List·Memᴰ·append-cases xs m))
+    (once-append xs ys (once-tail x xs o) q (λ y m. h y (List·Memᴰ·tail m)))
 
 pub getD-mem : (l : List ℕ) (p : ℕ) → p < length l → List·Memᴰ (getD l p 0) l
 getD-mem [] p h = absurd (omega arith)

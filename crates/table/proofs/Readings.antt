@@ -195,7 +195,7 @@ Begins (dies k) r = Unit {0}
 Begins (parts k) r = isIn (r .detached) k ≡ false
 Begins (sieved keeps) r = Unit {0}
 
-without-sublist : (j : ℕ) (l : List (ℕ × ℕ)) → Sublistᴰ (keysOf (without j l)) (keysOf l)
+pub without-sublist : (j : ℕ) (l : List (ℕ × ℕ)) → Sublistᴰ (keysOf (without j l)) (keysOf l)
 unfolding without
 without-sublist j [] = Sublistᴰ·slnil
 without-sublist j (e ∷ l) =
@@ -203,7 +203,7 @@ without-sublist j (e ∷ l) =
     (λ q. rw q (Sublistᴰ·cons (without-sublist j l)))
     (λ q. rw q (Sublistᴰ·cons-cons refl (without-sublist j l)))
 
-sifted-sublist : (keeps : ℕ → ℕ → Bool) (l : List (ℕ × ℕ)) → Sublistᴰ (keysOf (sifted keeps l)) (keysOf l)
+pub sifted-sublist : (keeps : ℕ → ℕ → Bool) (l : List (ℕ × ℕ)) → Sublistᴰ (keysOf (sifted keeps l)) (keysOf l)
 unfolding sifted
 sifted-sublist keeps [] = Sublistᴰ·slnil
 sifted-sublist keeps (e ∷ l) =
@@ -211,7 +211,7 @@ sifted-sublist keeps (e ∷ l) =
     (λ q. rw q (Sublistᴰ·cons-cons refl (sifted-sublist keeps l)))
     (λ q. rw q (Sublistᴰ·cons (sifted-sublist keeps l)))
 
-valued-sublist : (j x : ℕ) (l : List (ℕ × ℕ)) → Sublistᴰ (keysOf (valued j x l)) (keysOf l)
+pub valued-sublist : (j x : ℕ) (l : List (ℕ × ℕ)) → Sublistᴰ (keysOf (valued j x l)) (keysOf l)
 unfolding valued
 valued-sublist j x [] = Sublistᴰ·slnil
 valued-sublist j x (e ∷ l) =
@@ -219,7 +219,7 @@ valued-sublist j x (e ∷ l) =
     (λ q. rw q (Sublistᴰ·cons-cons (eqb-true j (e .0) q) (valued-sublist j x l)))
     (λ q. rw q (Sublistᴰ·cons-cons refl (valued-sublist j x l)))
 
-except-sublist : (j : ℕ) (l : List ℕ) → Sublistᴰ (except j l) l
+pub except-sublist : (j : ℕ) (l : List ℕ) → Sublistᴰ (except j l) l
 unfolding except
 except-sublist j [] = Sublistᴰ·slnil
 except-sublist j (i ∷ l) =
