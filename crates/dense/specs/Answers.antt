@@ -3,7 +3,8 @@ use Prim.Native.Nat.{ℕ}
 use Rattle.refusal.specs.declared.Refusal.{Refusal}
 use Rattle.refusal.specs.Refusals.{numberOf}
 use Rattle.table.specs.declared.Header.{Header}
-use Rattle.table.specs.Calls.{Said, said-key, said-value, said-count, said-truth, refused, Judged, found, fails, Begun, begins, cannot}
+use Rattle.table.specs.Table.{Table}
+use Rattle.table.specs.Calls.{Said, said-key, said-value, said-count, said-truth, said-done, refused, Out, Judged, found, fails, Begun, begins, cannot}
 use Rattle.dense.specs.declared.Placed.{Placed}
 use Rattle.dense.specs.declared.Placed.the-variants as placed
 use Rattle.dense.specs.declared.Found.{Found}
@@ -14,8 +15,16 @@ use Rattle.dense.specs.declared.Counted.{Counted}
 use Rattle.dense.specs.declared.Counted.the-variants as counted
 use Rattle.dense.specs.declared.Tested.{Tested}
 use Rattle.dense.specs.declared.Tested.the-variants as tested
+use Rattle.dense.specs.declared.Slot.{Slot}
+use Rattle.dense.specs.declared.Slot.the-variants as slot
+use Rattle.dense.specs.declared.Verdict.{Verdict}
+use Rattle.dense.specs.declared.Verdict.the-variants as verdict
 use Rattle.dense.specs.declared.Started.{Started}
 use Rattle.dense.specs.declared.Started.the-variants as started
+
+-- an answer with the table after the call
+abbrev pub outcome : Said → Table → Out
+outcome said t = (said, t)
 
 abbrev pub judgedOf : Placed → Judged
 judgedOf (placed.At p) = found p
@@ -40,3 +49,11 @@ truthSaid (tested.Refused r) = refused (numberOf r)
 abbrev pub begunOf : Started → Begun
 begunOf (started.With h) = begins h
 begunOf (started.Refused r) = cannot (numberOf r)
+
+abbrev pub slotJudged : Slot → Judged
+slotJudged (slot.At i) = found i
+slotJudged (slot.Refused r) = fails (numberOf r)
+
+abbrev pub doneSaid : Verdict → Said
+doneSaid verdict.Done = said-done
+doneSaid (verdict.Refused r) = refused (numberOf r)

@@ -16,6 +16,9 @@ use table::Header;
 // The largest C: how many elements a table may have at most.
 pub const LIMIT: usize = 4096;
 
+// The link of a slot whose element is detached: it is no place and no slot.
+pub const DETACHED: u32 = 0xffff_ffff;
+
 // How a table begins.
 pub enum Started {
     With(Header),
@@ -50,6 +53,24 @@ pub enum Counted {
 pub enum Tested {
     Truth(bool),
     Refused(Refusal),
+}
+
+// A slot that a judgement found.
+pub enum Slot {
+    At(usize),
+    Refused(Refusal),
+}
+
+// Done, or the refusal.
+pub enum Verdict {
+    Done,
+    Refused(Refusal),
+}
+
+// The header after a call that answers nothing else.
+pub struct Changed {
+    pub header: Header,
+    pub answer: Verdict,
 }
 
 // Whether the arrays' lengths fit one another: C keys and values, C + 1 versions and links.

@@ -47,7 +47,7 @@ module _ (t : Table) (p x : ℕ) where
   unfolding withValue
   value-key q = refl
 
-  value-off : (q : ℕ) → q ≢ p → val (withValue t p x) q ≡ val t q
+  pub value-off : (q : ℕ) → q ≢ p → val (withValue t p x) q ≡ val t q
   unfolding withValue
   value-off q ne = getD-set-other (t .values) p q x 0 ne
 
@@ -86,7 +86,7 @@ module _ (t : Table) (i l : ℕ) (head′ : Header) where
   freed-lengths = (length-set (t .versions) i _, length-set (t .links) i l, refl, refl)
 
 module _ (u : Table) (p q : ℕ) where
-  filled-version : (j : ℕ) → ver (filled u p q) j ≡ ver u j
+  pub filled-version : (j : ℕ) → ver (filled u p q) j ≡ ver u j
   unfolding filled
   filled-version j = refl
 
@@ -104,7 +104,7 @@ module _ (u : Table) (p q : ℕ) where
 
 module _ (t : Table) (i l : ℕ) (head′ : Header) where
   -- an element leaves a freed slot, and perhaps the last one is moved
-  left-either : (P : Table → Type 0) → P (freed t i l head′) → P (filled (freed t i l head′) (link t i) (last t)) → P (left t i l head′)
+  pub left-either : (P : Table → Type 0) → P (freed t i l head′) → P (filled (freed t i l head′) (link t i) (last t)) → P (left t i l head′)
   unfolding left
   left-either P = either P (eqb (link t i) (last t)) (freed t i l head′) (filled (freed t i l head′) (link t i) (last t))
 

@@ -6,7 +6,7 @@ use native.Mathlib.Omega.{arith}
 use lib.Dec.{leb, ltb, eqb}
 use lib.ListN.{length}
 use borrow.Author.Tests.{ltb-true, ltb-false}
-use Rattle.keys.specs.Keys.{far, idx, vsn, pack, version, odd, up}
+use Rattle.keys.specs.Keys.{idx, vsn, pack, version, odd}
 use Rattle.lists.proofs.Tests.{split, parts}
 use Rattle.table.specs.Table.{Table, ver, link, key, cap, hasShape, isLive, isHeld, isDetached, last, lastIdx, lastInRange, lastIsHeld, hasPlace, headIsFree}
 use Rattle.table.specs.Calls.{Judged, found, fails, placeIn, place, nextIn, next, keySaid, said-key, lastOf, leaving, berthIn, berth}
@@ -104,29 +104,19 @@ leaves t k p e =
 
 -- ---- reattach's judgement
 
-pub record Berthed (t : Table) (i v : ℕ) : Type 0 where
+-- slot i and place n are in the arrays
+pub record Joining (t : Table) (i : ℕ) : Type 0 where
   pub shape : Shape t
-  pub low : 1 ≤ i
   pub slot : i < t .head .s
-  pub same : ver t i ≡ up v
-  pub away : link t i ≡ far
   pub place : t .head .n < t .head .s - 1
 
-pub berthed : (t : Table) (k i : ℕ) → berth t k ≡ found i → (idx k ≡ i) × Berthed t (idx k) (version k)
+pub joins : (t : Table) (k i : ℕ) → berth t k ≡ found i → Joining t i
 unfolding berth berthIn isDetached
-berthed t k i e =
+joins t k i e =
     let sh : Shape t = shape t (search passed) in
-    let same : idx k ≡ i = search (passed, went, found-same) in (
-      same,
-      record {
-        shape = sh;
-        low = search (passed, went, parts);
-        slot = search (passed, went, parts);
-        same = search (passed, went, parts);
-        away = search (passed, went, parts);
-        place = search (passed, went, parts);
-      },
-    )
+    let same : idx k ≡ i = search (passed, went, found-same) in
+    let high : idx k < t .head .s = search (passed, went, parts) in
+    record { shape = sh; slot = omega arith; place = search (passed, went, parts) }
 
 -- ---- the drain step's judgement
 

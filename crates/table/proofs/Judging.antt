@@ -57,3 +57,67 @@ module _ (t : Table) where
   pub next-new : t .head .s ≤ t .head .f → t .head .s ≤ cap t → found (pack (t .head .s) 1) ≡ nextIn t
   unfolding nextIn
   next-new a b = simp tests
+
+-- ---- the last key
+
+module _ (t : Table) (x : Judged) where
+  pub range-low : lastIdx t < 1 → fails 5 ≡ cond (lastInRange t) x (fails 5)
+  unfolding lastInRange
+  range-low l = simp tests
+
+  pub range-high : 1 ≤ lastIdx t → t .head .s ≤ lastIdx t → fails 5 ≡ cond (lastInRange t) x (fails 5)
+  unfolding lastInRange
+  range-high l h = simp tests
+
+  pub range-yes : 1 ≤ lastIdx t → lastIdx t < t .head .s → x ≡ cond (lastInRange t) x (fails 5)
+  unfolding lastInRange
+  range-yes l h = simp tests
+
+  pub held-low : lastIdx t < 1 → fails 5 ≡ cond (lastIsHeld t) x (fails 5)
+  unfolding lastIsHeld lastInRange
+  held-low l = simp tests
+
+  pub held-high : 1 ≤ lastIdx t → t .head .s ≤ lastIdx t → fails 5 ≡ cond (lastIsHeld t) x (fails 5)
+  unfolding lastIsHeld lastInRange
+  held-high l h = simp tests
+
+  module _ (l : 1 ≤ lastIdx t) (h : lastIdx t < t .head .s) where
+    pub held-version : ver t (lastIdx t) ≢ vsn (key t (last t)) → fails 5 ≡ cond (lastIsHeld t) x (fails 5)
+    unfolding lastIsHeld lastInRange
+    held-version ne = simp tests
+
+    pub held-link : ver t (lastIdx t) ≡ vsn (key t (last t)) → link t (lastIdx t) ≢ last t → fails 5 ≡ cond (lastIsHeld t) x (fails 5)
+    unfolding lastIsHeld lastInRange
+    held-link e ne = simp tests
+
+    pub held-yes : ver t (lastIdx t) ≡ vsn (key t (last t)) → link t (lastIdx t) ≡ last t → x ≡ cond (lastIsHeld t) x (fails 5)
+    unfolding lastIsHeld lastInRange
+    held-yes e b = simp tests
+
+-- ---- the slot of a detached key
+
+module _ (t : Table) (i v : ℕ) where
+  pub berth-low : i < 1 → fails 4 ≡ berthIn t i v
+  unfolding berthIn isDetached
+  berth-low l = simp tests
+
+  pub berth-high : 1 ≤ i → t .head .s ≤ i → fails 4 ≡ berthIn t i v
+  unfolding berthIn isDetached
+  berth-high l h = simp tests
+
+  module _ (l : 1 ≤ i) (h : i < t .head .s) where
+    pub berth-version : ver t i ≢ up v → fails 4 ≡ berthIn t i v
+    unfolding berthIn isDetached
+    berth-version ne = simp tests
+
+    pub berth-link : ver t i ≡ up v → link t i ≢ far → fails 4 ≡ berthIn t i v
+    unfolding berthIn isDetached
+    berth-link e ne = simp tests
+
+    pub berth-crowded : ver t i ≡ up v → link t i ≡ far → t .head .s - 1 ≤ t .head .n → fails 5 ≡ berthIn t i v
+    unfolding berthIn isDetached
+    berth-crowded e a n = simp tests
+
+    pub berth-yes : ver t i ≡ up v → link t i ≡ far → t .head .n < t .head .s - 1 → found i ≡ berthIn t i v
+    unfolding berthIn isDetached
+    berth-yes e a n = simp tests

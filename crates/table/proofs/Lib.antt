@@ -1,9 +1,11 @@
 pub mod Shape
 pub mod Judged
 pub mod Judging
+pub mod Storing
 pub mod Refused
 pub mod Frames
 pub mod Places
+pub mod Values
 pub mod Only
 pub mod Runs
 pub mod Changes

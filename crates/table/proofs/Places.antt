@@ -107,7 +107,7 @@ disjoint-gives t ks out =
 
 -- ---- accepted places
 
-first-none : (b : Bool) (r : ℕ) (f : Option ℕ) → cond b f (some r) ≡ none → (b ≡ true) × (f ≡ none)
+pub first-none : (b : Bool) (r : ℕ) (f : Option ℕ) → cond b f (some r) ≡ none → (b ≡ true) × (f ≡ none)
 first-none true r f e = (refl, e)
 first-none false r f e = let z : _≡_ {A = ℕ} 0 1 = cc in absurd (omega arith)
 
@@ -129,7 +129,8 @@ module _ (t : Table) where
       let c = first-none (isHeld t (idx k) (version k)) _ _ (b .1) in
       (not-true _ (a .0), b .0, c .0, c .1)
 
-  held : (k : ℕ) → isHeld t (idx k) (version k) ≡ true → (link t (idx k) < t .head .n) × (key t (link t (idx k)) ≡ asRead k)
+  -- a live key's place is below n and holds the key
+  pub held : (k : ℕ) → isHeld t (idx k) (version k) ≡ true → (link t (idx k) < t .head .n) × (key t (link t (idx k)) ≡ asRead k)
   unfolding isHeld
   held k e = let q : key t (link t (idx k)) ≡ pack (idx k) (version k) = search parts in (search parts, q ∙ sym (is-read k _ _ refl refl))
 
