@@ -1,3 +1,4 @@
 pub mod Shape
 pub mod Judged
 pub mod Judging
+pub mod Checking
