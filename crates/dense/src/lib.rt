@@ -16,6 +16,9 @@ use table::Header;
 // The largest C: how many elements a table may have at most.
 pub const LIMIT: usize = 4096;
 
+// The link of a slot whose element is detached: it is no place and no slot.
+pub const DETACHED: u32 = 0xffff_ffff;
+
 // How a table begins.
 pub enum Started {
     With(Header),
