@@ -29,7 +29,7 @@ use Rattle.dense.specs.declared.Started.{Started}
 use Rattle.dense.specs.declared.Started.the-variants as started
 
 -- a refusal, from its number on paper
-said-refusal : (r q : Refusal) → refused (numberOf r) ≡ refused (numberOf q) → r ≡ q
+pub said-refusal : (r q : Refusal) → refused (numberOf r) ≡ refused (numberOf q) → r ≡ q
 said-refusal r q e = number-one-to-one r q (cc)
 
 fails-refusal : (r q : Refusal) → fails (numberOf r) ≡ fails (numberOf q) → r ≡ q

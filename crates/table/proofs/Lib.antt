@@ -31,3 +31,5 @@ pub mod Counted
 pub mod Turns
 pub mod Reissue
 pub mod Checking
+pub mod Listed
+pub mod Chained
