@@ -1,7 +1,11 @@
 -- Versions that wrap: up and down, parity, and the next issue. Assumes nothing.
-use mathlib.Core.Path.{_≡_}
+use mathlib.Core.Path.{_≡_, sym, _∙_}
+use mathlib.Core.Logic.{_≢_}
+use mathlib.Core.Bool.{Bool, true, false}
 use Prim.Native.Nat.{ℕ, _+_, _-_, _%_, _<_}
 use native.Mathlib.Omega.{arith}
+use lib.Dec.{eqb}
+use borrow.Author.Tests.{eqb-true, eqb-false}
 use Rattle.keys.specs.Keys.{W, odd, up, down}
 
 pub odd-odd : (v : ℕ) → odd v % 2 ≡ 1
@@ -30,3 +34,10 @@ down-parity v = omega arith
 -- a slot removed from and taken again issues the version two up, modulo 2 ^ 32
 pub next-issue : (v : ℕ) → v % 2 ≡ 1 → v < W → odd (up v) ≡ (v + 2) % W
 next-issue v h l = omega arith
+
+-- what `is_odd` tells
+pub told-odd : (v : ℕ) {r : Bool} → r ≡ eqb (v % 2) 1 → r ≡ true → v % 2 ≢ 0
+told-odd v e h z = omega (arith, eqb-true (v % 2) 1 (sym e ∙ h))
+
+pub told-even : (v : ℕ) {r : Bool} → r ≡ eqb (v % 2) 1 → r ≡ false → v % 2 ≡ 0
+told-even v e h = let n : v % 2 ≢ 1 = eqb-false (v % 2) 1 (sym e ∙ h) in omega (arith, n)

@@ -3,7 +3,7 @@
 ghost use mathlib.Core.Path.{_≡_};
 ghost use lib.Dec.{eqb};
 ghost use Prim.Native.Nat.{_%_};
-ghost use Rattle.keys.specs.Keys.{odd, up, down, keyOf, numberOf, nullKey, isNull, made};
+ghost use Rattle.keys.specs.Keys.{vsn, odd, up, down, keyOf, numberOf, nullKey, isNull, made};
 
 pub struct KeyData {
     pub idx: u32,
@@ -57,6 +57,13 @@ impl KeyData {
         let version = self.version;
         let idx = self.idx;
         ((version as u64) << 32) | (idx as u64)
+    }
+
+    // A stored key's version as it stands, with its lowest bit as it is.
+    pub fn raw_version(value: u64) -> u32
+        ensures { λ r. ⌜ r ≡ vsn value ⌝ }
+    {
+        (value >> 32) as u32
     }
 }
 

@@ -1,9 +1,9 @@
 -- Lists with no element twice, and membership. Assumes nothing.
 use mathlib.Core.Path.{_≡_, refl, sym, ap, _∙_}
-use mathlib.Core.Logic.{_≢_, _⊎_, inl, inr, by-cases, ⊎-elim}
-use mathlib.Core.Bool.{Bool, true, false, cond}
-use mathlib.Core.List.{List, [], _∷_, List·Memᴰ, List·Memᴰ·head, List·Memᴰ·tail, List·Memᴰ·cases-cons, List·Memᴰ·not-nil, Memᴰ·cast}
-use Prim.Native.Nat.{ℕ, zero, suc, _+_, _≤_, _<_}
+use mathlib.Core.Logic.{by-cases, ⊎-elim}
+use mathlib.Core.Bool.{Bool, true, cond}
+use mathlib.Core.List.{List, [], _∷_, _++_, List·Memᴰ, List·Memᴰ·append-cases, List·Memᴰ·head, List·Memᴰ·tail, List·Memᴰ·cases-cons, List·Memᴰ·not-nil, Memᴰ·cast, Sublistᴰ, Sublistᴰ·slnil, Sublistᴰ·cons, Sublistᴰ·cons-cons}
+use Prim.Native.Nat.{ℕ, zero, suc, _≤_, _<_}
 use native.Mathlib.Omega.{arith}
 use native.Mathlib.Decide.{ℕ-discrete}
 use lib.ListN.{length, getD}
@@ -31,6 +31,12 @@ once-cons x xs h o = (h, o)
 pub once-nil : Once []
 unfolding Once
 once-nil = tt
+
+pub once-append : (xs ys : List ℕ) → Once xs → Once ys → ((x : ℕ) → List·Memᴰ x xs → List·Memᴰ x ys → ⊥) → Once (xs ++ ys)
+once-append [] ys o q h = q
+once-append (x ∷ xs) ys o q h =
+    once-cons x (xs ++ ys) (λ m. ⊎-elim (once-head x xs o) (h x (List·Memᴰ·head refl)) (List·Memᴰ·append-cases xs m))
+    (once-append xs ys (once-tail x xs o) q (λ y m. h y (List·Memᴰ·tail m)))
 
 pub getD-mem : (l : List ℕ) (p : ℕ) → p < length l → List·Memᴰ (getD l p 0) l
 getD-mem [] p h = absurd (omega arith)
@@ -80,3 +86,32 @@ count-once l s P h =
     count-inj s P (length l) always (place l) (λ k b p. (place-at l k (h k b p) .0, always-true _))
     (λ j k hj hk pj pk e. sym (place-at l j (h j hj pj) .1) ∙ ap (λ (m : ℕ). getD l m 0) e ∙ place-at l k (h k hk pk) .1) in
     omega (arith, c, count-always (length l))
+
+-- ---- parts of a list, in order
+
+pub sublist-mem : {a b : List ℕ} → Sublistᴰ a b → (x : ℕ) → List·Memᴰ x a → List·Memᴰ x b
+sublist-mem Sublistᴰ·slnil x m = m
+sublist-mem (Sublistᴰ·cons s) x m = List·Memᴰ·tail (sublist-mem s x m)
+sublist-mem (Sublistᴰ·cons-cons e s) x m = ⊎-elim (λ q. List·Memᴰ·head (q ∙ e)) (λ r. List·Memᴰ·tail (sublist-mem s x r)) (List·Memᴰ·cases-cons m)
+
+pub once-sublist : {a b : List ℕ} → Sublistᴰ a b → Once b → Once a
+once-sublist Sublistᴰ·slnil o = o
+once-sublist (Sublistᴰ·cons {a = x} {l₂ = b} s) o = once-sublist s (once-tail x b o)
+once-sublist (Sublistᴰ·cons-cons {a = x} {b = y} {l₁ = a} {l₂ = b} e s) o =
+    once-cons x a (λ m. once-head y b o (Memᴰ·cast (sym e) (sublist-mem s x m))) (once-sublist s (once-tail y b o))
+
+-- ---- lengths by members
+
+-- a list with no element twice is no longer than one that has all its elements
+pub length-inside : (a b : List ℕ) → Once a → ((x : ℕ) → List·Memᴰ x a → List·Memᴰ x b) → length a ≤ length b
+length-inside a b o h =
+    let c : count always (length a) ≤ count always (length b) =
+    count-inj (length a) always (length b) always (λ (p : ℕ). place b (getD a p 0)) (λ p l _. (place-at b _ (h _ (getD-mem a p l)) .0, always-true _))
+    (λ p q hp hq _ _ e.
+    once-inj a o p q hp hq
+    (sym (place-at b _ (h _ (getD-mem a p hp)) .1) ∙ ap (λ (m : ℕ). getD b m 0) e ∙ place-at b _ (h _ (getD-mem a q hq)) .1)) in
+    omega (arith, c, count-always (length a), count-always (length b))
+
+-- two such lists with the same elements are equally long
+pub length-lists-same : (a b : List ℕ) → Once a → Once b → ((x : ℕ) → List·Memᴰ x a → List·Memᴰ x b) → ((x : ℕ) → List·Memᴰ x b → List·Memᴰ x a) → length a ≡ length b
+length-lists-same a b oa ob f g = omega (arith, length-inside a b oa f, length-inside b a ob g)

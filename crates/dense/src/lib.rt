@@ -1,0 +1,329 @@
+// The dense table over lent arrays: the calls that begin a table or only look at one. The Rust's `dense.rs`, read side.
+ghost use mathlib.Core.Path.{_≡_};
+ghost use mathlib.Core.List.{List};
+ghost use Prim.Native.Nat.{ℕ};
+ghost use Rattle.refusal.specs.Refusals.{numberOf};
+ghost use Rattle.table.specs.Table.{lengthsFit, hasShape, isLive, dead};
+ghost use Rattle.table.specs.Calls.{Begun, fresh, len, isEmpty, contains, listedKeys, listedValues, placeIn, place, lookup, nextIn, keySaid, nextKey};
+ghost use Rattle.dense.specs.Lent.{table, before};
+ghost use Rattle.dense.specs.Answers.{judgedOf, valueSaid, issuedSaid, countSaid, truthSaid, begunOf};
+ghost use Rattle.table.proofs.Shape.{Shape};
+use keys::KeyData;
+use keys::is_odd;
+use refusal::Refusal;
+use table::Header;
+
+// The largest C: how many elements a table may have at most.
+pub const LIMIT: usize = 4096;
+
+// The link of a slot whose element is detached: it is no place and no slot.
+pub const DETACHED: u32 = 0xffff_ffff;
+
+// How a table begins.
+pub enum Started {
+    With(Header),
+    Refused(Refusal),
+}
+
+// The place of a live key.
+pub enum Placed {
+    At(usize),
+    Refused(Refusal),
+}
+
+// The value of a key.
+pub enum Found {
+    Value(u64),
+    Refused(Refusal),
+}
+
+// The key that an insert issues.
+pub enum Issued {
+    Key(u64),
+    Refused(Refusal),
+}
+
+// How many elements there are.
+pub enum Counted {
+    Count(u32),
+    Refused(Refusal),
+}
+
+// A yes or a no.
+pub enum Tested {
+    Truth(bool),
+    Refused(Refusal),
+}
+
+// A slot that a judgement found.
+pub enum Slot {
+    At(usize),
+    Refused(Refusal),
+}
+
+// Done, or the refusal.
+pub enum Verdict {
+    Done,
+    Refused(Refusal),
+}
+
+// The header after a call that answers nothing else.
+pub struct Changed {
+    pub header: Header,
+    pub answer: Verdict,
+}
+
+// Whether the arrays' lengths fit one another: C keys and values, C + 1 versions and links.
+pub fn lengths_fit(versions: &[u32], links: &[u32], keys: &[u64], values: &[u64]) -> bool
+    ensures { λ r. ⌜ r ≡ lengthsFit (now (versions .entry)) (now (links .entry)) (now (keys .entry)) (now (values .entry)) ⌝ }
+{
+    let c = keys.len();
+    if LIMIT < c {
+        return false;
+    }
+    if versions.len() != c + 1 {
+        return false;
+    }
+    if links.len() != c + 1 {
+        return false;
+    }
+    values.len() == c
+}
+
+// Whether the shape holds. It looks at lengths and header only, so it takes the same time whatever the table holds.
+pub fn has_shape(h: Header, versions: &[u32], links: &[u32], keys: &[u64], values: &[u64]) -> bool
+    ensures { λ r. ⌜ r ≡ hasShape (before versions links keys values h) ⌝ }
+{
+    if !lengths_fit(versions, links, keys, values) {
+        return false;
+    }
+    let s = h.s as usize;
+    if s < 1 {
+        return false;
+    }
+    if keys.len() + 1 < s {
+        return false;
+    }
+    if h.s - 1 < h.n {
+        return false;
+    }
+    if h.f < 1 {
+        return false;
+    }
+    h.f <= h.s
+}
+
+// Begins a table over lent arrays, whatever they hold.
+pub fn fresh(versions: &mut [u32], links: &mut [u32], keys: &[u64], values: &[u64]) -> Started
+    ensures { λ r. ⌜ _≡_ {A = Begun × (List ℕ × List ℕ)} (begunOf r, (now (versions .exit), now (links .exit))) (fresh (now (versions .entry)) (now (links .entry)) (now (keys .entry)) (now (values .entry))) ⌝ }
+{
+    if !lengths_fit(versions, links, keys, values) {
+        return Started::Refused(Refusal::Shape);
+    }
+    versions[0] = 0;
+    links[0] = 0;
+    Started::With(Header { n: 0, s: 1, f: 1 })
+}
+
+pub fn len(h: Header, versions: &[u32], links: &[u32], keys: &[u64], values: &[u64]) -> Counted
+    ensures { λ r. ⌜ countSaid r ≡ len (before versions links keys values h) ⌝ }
+{
+    if !has_shape(h, versions, links, keys, values) {
+        return Counted::Refused(Refusal::Shape);
+    }
+    Counted::Count(h.n)
+}
+
+pub fn is_empty(h: Header, versions: &[u32], links: &[u32], keys: &[u64], values: &[u64]) -> Tested
+    ensures { λ r. ⌜ truthSaid r ≡ isEmpty (before versions links keys values h) ⌝ }
+{
+    if !has_shape(h, versions, links, keys, values) {
+        return Tested::Refused(Refusal::Shape);
+    }
+    Tested::Truth(h.n == 0)
+}
+
+// The live keys, as the first n of the caller's own array.
+pub fn keys_as_slice<'a>(
+    h: Header,
+    versions: &[u32],
+    links: &[u32],
+    keys: &'a [u64],
+    values: &[u64],
+) -> &'a [u64]
+    ensures { λ r. ⌜ (now r ≡ listedKeys (before versions links keys values h)) × (r .ptr ≡ keys .entry .ptr) ⌝ }
+{
+    if !has_shape(h, versions, links, keys, values) {
+        return &keys[..0];
+    }
+    let n = h.n as usize;
+    &keys[..n]
+}
+
+// The live values, beside their keys.
+pub fn values_as_slice<'a>(
+    h: Header,
+    versions: &[u32],
+    links: &[u32],
+    keys: &[u64],
+    values: &'a [u64],
+) -> &'a [u64]
+    ensures { λ r. ⌜ (now r ≡ listedValues (before versions links keys values h)) × (r .ptr ≡ values .entry .ptr) ⌝ }
+{
+    if !has_shape(h, versions, links, keys, values) {
+        return &values[..0];
+    }
+    let n = h.n as usize;
+    &values[..n]
+}
+
+// Whether a key is live, on a table that has its shape.
+fn is_live(
+    h: Header,
+    versions: &[u32],
+    links: &[u32],
+    keys: &[u64],
+    values: &[u64],
+    key: KeyData,
+) -> bool
+    requires { ⌜ Shape (table (now versions) (now links) (now keys) (now values) h) ⌝ }
+    ensures { λ r. ⌜ r ≡ isLive (before versions links keys values h) (key .idx) (key .version) ⌝ }
+{
+    let i = key.idx;
+    if i < 1 {
+        return false;
+    }
+    if h.s <= i {
+        return false;
+    }
+    versions[i as usize] == key.version
+}
+
+// The refusal of a key that is not live.
+fn dead(
+    h: Header,
+    versions: &[u32],
+    links: &[u32],
+    keys: &[u64],
+    values: &[u64],
+    key: KeyData,
+) -> Refusal
+    requires { ⌜ Shape (table (now versions) (now links) (now keys) (now values) h) ⌝ }
+    ensures { λ r. ⌜ numberOf r ≡ dead (before versions links keys values h) (key .idx) (key .version) ⌝ }
+{
+    Refusal::Dead
+}
+
+// The place of a key, on a table that has its shape.
+fn place_in(
+    h: Header,
+    versions: &[u32],
+    links: &[u32],
+    keys: &[u64],
+    values: &[u64],
+    key: KeyData,
+) -> Placed
+    requires { ⌜ Shape (table (now versions) (now links) (now keys) (now values) h) ⌝ }
+    ensures { λ r. ⌜ judgedOf r ≡ placeIn (before versions links keys values h) (key .idx) (key .version) ⌝ }
+{
+    if !is_live(h, versions, links, keys, values, key) {
+        return Placed::Refused(dead(h, versions, links, keys, values, key));
+    }
+    let p = links[key.idx as usize];
+    if h.n <= p {
+        return Placed::Refused(Refusal::Damaged);
+    }
+    let q = p as usize;
+    if keys[q] != key.as_ffi() {
+        return Placed::Refused(Refusal::Damaged);
+    }
+    Placed::At(q)
+}
+
+// Judges a key for the calls that need it live: its place, or the refusal.
+pub fn place(
+    h: Header,
+    versions: &[u32],
+    links: &[u32],
+    keys: &[u64],
+    values: &[u64],
+    k: u64,
+) -> Placed
+    ensures { λ r. ⌜ judgedOf r ≡ place (before versions links keys values h) k ⌝ }
+{
+    if !has_shape(h, versions, links, keys, values) {
+        return Placed::Refused(Refusal::Shape);
+    }
+    place_in(h, versions, links, keys, values, KeyData::from_ffi(k))
+}
+
+pub fn lookup(
+    h: Header,
+    versions: &[u32],
+    links: &[u32],
+    keys: &[u64],
+    values: &[u64],
+    k: u64,
+) -> Found
+    ensures { λ r. ⌜ valueSaid r ≡ lookup (before versions links keys values h) k .0 ⌝ }
+{
+    match place(h, versions, links, keys, values, k) {
+        Placed::At(p) => Found::Value(values[p]),
+        Placed::Refused(r) => Found::Refused(r),
+    }
+}
+
+pub fn contains_key(
+    h: Header,
+    versions: &[u32],
+    links: &[u32],
+    keys: &[u64],
+    values: &[u64],
+    k: u64,
+) -> Tested
+    ensures { λ r. ⌜ truthSaid r ≡ contains (before versions links keys values h) k ⌝ }
+{
+    if !has_shape(h, versions, links, keys, values) {
+        return Tested::Refused(Refusal::Shape);
+    }
+    Tested::Truth(is_live(h, versions, links, keys, values, KeyData::from_ffi(k)))
+}
+
+// The key that an insert issues, on a table that has its shape.
+fn next_in(h: Header, versions: &[u32], links: &[u32], keys: &[u64], values: &[u64]) -> Issued
+    requires { ⌜ Shape (table (now versions) (now links) (now keys) (now values) h) ⌝ }
+    ensures { λ r. ⌜ issuedSaid r ≡ keySaid (nextIn (before versions links keys values h)) ⌝ }
+{
+    if h.f < h.s {
+        let f = h.f as usize;
+        let v = versions[f];
+        if is_odd(v) {
+            return Issued::Refused(Refusal::Damaged);
+        }
+        let link = links[f];
+        if link < 1 {
+            return Issued::Refused(Refusal::Damaged);
+        }
+        if h.s < link {
+            return Issued::Refused(Refusal::Damaged);
+        }
+        if h.s - 1 <= h.n {
+            return Issued::Refused(Refusal::Damaged);
+        }
+        return Issued::Key(KeyData::new(h.f, v).as_ffi());
+    }
+    if keys.len() < h.s as usize {
+        return Issued::Refused(Refusal::Full);
+    }
+    Issued::Key(KeyData::new(h.s, 1).as_ffi())
+}
+
+// The key that the next insert will answer, or the refusal that it will give.
+pub fn next_key(h: Header, versions: &[u32], links: &[u32], keys: &[u64], values: &[u64]) -> Issued
+    ensures { λ r. ⌜ issuedSaid r ≡ nextKey (before versions links keys values h) ⌝ }
+{
+    if !has_shape(h, versions, links, keys, values) {
+        return Issued::Refused(Refusal::Shape);
+    }
+    next_in(h, versions, links, keys, values)
+}
