@@ -2,5 +2,6 @@ pub mod Tests
 pub mod Only
 pub mod Stores
 pub mod Count
+pub mod Changes
 pub mod Once
 pub mod Put

@@ -1,0 +1,4 @@
+pub mod Shaped
+pub mod Stands
+pub mod Seek
+pub mod Whole
