@@ -6,6 +6,7 @@ use Prim.Native.Nat.{ℕ, zero, suc, _+_, _-_, max}
 use lib.Dec.{leb, ltb, eqb}
 use lib.ListN.{length, getD, set}
 use Rattle.keys.specs.Keys.{idx, version, odd, pack, keyOf, isNull}
+use Rattle.keys.specs.declared.KeyData.{KeyData}
 use Rattle.secondary.specs.declared.MapHeader.{MapHeader}
 use Rattle.secondary.specs.Map.{Map, ver, val, lengthsFit, hasShape, isThere, absent, older, grown, withValue, stored, emptied}
 
@@ -108,25 +109,28 @@ abbrev pub fateIn : Map → ℕ → ℕ → Fate
 fateIn g i v = settled (g .head .s) (g .head .count) (ver g i) v
 
 -- "null key: ignored; index 0: 9; index ≥ L: 8"; versions are compared in the map as it has grown
-unfoldable pub fate : Map → ℕ → Fate
-fate m k =
+unfoldable pub fate : Map → KeyData → Fate
+fate m key =
     cond (hasShape m)
-    (cond (isNull (keyOf k)) ignores
-    (cond (eqb (idx k) 0) (bars 9)
-    (cond (leb (length (m .versions)) (idx k)) (bars 8)
-    (fateIn (grown m (idx k)) (idx k) (version k)))))
+    (cond (isNull key) ignores
+    (cond (eqb (key .idx) 0) (bars 9)
+    (cond (leb (length (m .versions)) (key .idx)) (bars 8)
+    (fateIn (grown m (key .idx)) (key .idx) (key .version)))))
     (bars 1)
 
 -- the outcome of a fate: m is the map before, g the map grown to the key's index
-abbrev pub fated : Map → Map → ℕ → ℕ → ℕ → Fate → Out
-fated m g i v x ignores = (said-ignored, m)
-fated m g i v x replaces = (said-replaced (val g i), withValue g i x)
-fated m g i v x keeps = (said-kept, g)
-fated m g i v x (stores n) = (said-stored, stored g i v x n)
-fated m g i v x (bars r) = (refused r, m)
+abbrev pub fated : Map → Map → KeyData → ℕ → Fate → Out
+fated m g key x ignores = (said-ignored, m)
+fated m g key x replaces = (said-replaced (val g (key .idx)), withValue g (key .idx) x)
+fated m g key x keeps = (said-kept, g)
+fated m g key x (stores n) = (said-stored, stored g (key .idx) (key .version) x n)
+fated m g key x (bars r) = (refused r, m)
+
+unfoldable pub insertKey : Map → KeyData → ℕ → Out
+insertKey m key x = fated m (grown m (key .idx)) key x (fate m key)
 
 unfoldable pub insert : Map → ℕ → ℕ → Out
-insert m k x = fated m (grown m (idx k)) (idx k) (version k) x (fate m k)
+insert m k x = insertKey m (keyOf k) x
 
 -- ---- remove
 
