@@ -8,7 +8,7 @@ use native.Mathlib.Omega.{arith}
 use native.Mathlib.Decide.{ℕ-discrete}
 use Rattle.lists.specs.Count.{count}
 use Rattle.lists.proofs.Tests.{split, true-false}
-use Rattle.lists.proofs.Count.{always, always-true, minus, minus-true, minus-off, minus-at, count-yes, count-no, count-always, count-same, count-minus, count-inj}
+use Rattle.lists.proofs.Count.{always, always-true, minus, minus-true, minus-off, minus-at, count-zero, count-no, count-always, count-same, count-minus, count-inj}
 
 -- ---- bounds
 
@@ -19,7 +19,13 @@ count-le P n = omega (arith, count-always n, count-inj n P n always (λ k. k) (�
 pub count-some : (P : ℕ → Bool) (n x : ℕ) → x < n → P x ≡ true → 0 < count P n
 count-some P n x l p = omega (arith, count-minus P x n l p)
 
--- two that don't pass are not
+-- one that does not pass is not
+pub count-gap : (P : ℕ → Bool) (n x : ℕ) → x < n → P x ≡ false → count P n < n
+count-gap P n x l p =
+    omega (arith, count-always n, count-minus always x n l (always-true x),
+    count-inj n P n (minus always x) (λ k. k) (λ k b q. (b, minus-true always x k (λ e. true-false q (ap P e ∙ p)) (always-true k))) (λ j k b m q r e. e))
+
+-- nor are two
 pub count-room : (P : ℕ → Bool) (n x y : ℕ) → x < n → y < n → x ≢ y → P x ≡ false → P y ≡ false → count P n + 2 ≤ n
 count-room P n x y lx ly ne px py =
     omega (
@@ -42,6 +48,11 @@ count-more P n (suc d) h =
     ap (count P) (add-suc n d)
     ∙ count-no P (n + d) (h (n + d) (omega arith) (omega arith))
     ∙ count-more P n d (λ k l m. h k l (omega arith))
+
+pub count-none : (P : ℕ → Bool) (n : ℕ) → ((k : ℕ) → k < n → P k ≡ false) → count P n ≡ 0
+count-none P n h =
+    let e : n ≡ 0 + n = omega arith in
+    ap (count P) e ∙ count-more P 0 n (λ k l m. h k (omega arith)) ∙ count-zero P
 
 -- ---- one number changes
 

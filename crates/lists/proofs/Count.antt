@@ -40,7 +40,7 @@ pub count-no : (P : ℕ → Bool) (n : ℕ) → P n ≡ false → count P (suc n
 unfolding count
 count-no P n h = rw h
 
-count-zero : (P : ℕ → Bool) → count P 0 ≡ 0
+pub count-zero : (P : ℕ → Bool) → count P 0 ≡ 0
 unfolding count
 count-zero P = refl
 

@@ -1,16 +1,18 @@
--- A drain step from what a look finds: the same slot is judged, and its element removed. Assumes nothing.
+-- A look and a drain step, one equation for each outcome; and a drain step from what a look finds. Assumes nothing.
 use mathlib.Core.Path.{_≡_, refl, sym, ap, _∙_}
-use mathlib.Core.Logic.{_≢_}
+use mathlib.Core.Logic.{_≢_, by-cases}
 use mathlib.Core.Bool.{Bool, true, false, cond}
 use Prim.Native.Nat.{ℕ, _+_, _-_, _≤_, _<_}
 use native.Mathlib.Omega.{arith}
+use native.Mathlib.Decide.{ℕ-discrete}
 use lib.Dec.{ltb}
 use lib.ListN.{length}
-use borrow.Author.Tests.{ltb-true, eq-eqb, ne-eqb}
+use borrow.Author.Tests.{ltb-true, lt-ltb, eq-eqb, ne-eqb}
 use Rattle.lists.proofs.Tests.{split}
-use Rattle.secondary.specs.Map.{Map, val, hasShape, emptied}
-use Rattle.secondary.specs.Calls.{Said, said-element, said-done, refused, leavingFrom, keyAt, Met, meets, nothing, stops, met, looked, peek, drained, drain, ahead}
-use Rattle.secondary.proofs.Shaped.{Shaped, shaped}
+use Rattle.secondary.specs.Map.{Map, ver, val, hasShape, emptied}
+use Rattle.secondary.specs.Calls.{Said, said-element, said-done, refused, leavingFrom, keyAt, element, meets, nothing, stops, met, peek, drain, ahead}
+use Rattle.secondary.proofs.Shaped.{shaped}
+use Rattle.secondary.proofs.Seek.{ahead-occupied}
 
 -- ---- the slot ahead
 
@@ -18,6 +20,7 @@ pub record Meets (m : Map) (p i : ℕ) : Type 0 where
   pub shape : hasShape m ≡ true
   pub lowest : ahead m p ≡ i
   pub below : i < m .head .s
+  pub full : ver m i ≢ 0
 
 meets-in : (a s i : ℕ) → cond (ltb a s) (meets a) nothing ≡ meets i → (a ≡ i) × (i < s)
 meets-in a s i e =
@@ -29,11 +32,65 @@ pub meeting : (m : Map) (p i : ℕ) → met m p ≡ meets i → Meets m p i
 unfolding met
 meeting m p i e =
     split (hasShape m)
-    (λ h. let w = meets-in (ahead m p) (m .head .s) i (rw h at e) in record { shape = h; lowest = w .0; below = w .1 })
+    (λ h.
+    let w = meets-in (ahead m p) (m .head .s) i (rw h at e) in
+    record { shape = h; lowest = w .0; below = w .1; full = rw (w .0) at (ahead-occupied m p (rw (w .0) (w .1))) })
     (λ h. let q : stops 1 ≡ meets i = rw h at e in let z : _≡_ {A = ℕ} 0 1 = cc in absurd (omega arith))
 
--- ---- a look that finds an element
+pub meets-ahead : (m : Map) (p : ℕ) → hasShape m ≡ true → ahead m p < m .head .s → met m p ≡ meets (ahead m p)
+unfolding met
+meets-ahead m p sh l = rw (sh, lt-ltb (ahead m p) (m .head .s) l)
 
+-- the three things that can stand ahead
+pub by-met {ℓ} : {A : Type ℓ} (m : Map) (p : ℕ) → (met m p ≡ stops 1 → A) → (met m p ≡ nothing → A) → ((i : ℕ) → met m p ≡ meets i → A) → A
+unfolding met
+by-met m p bad none some =
+    split (hasShape m)
+    (λ sh. split (ltb (ahead m p) (m .head .s)) (λ h. some (ahead m p) (rw (sh, h))) (λ h. none (rw (sh, h))))
+    (λ sh. bad (rw sh))
+
+module _ (m : Map) (p : ℕ) where
+  pub peek-stops : met m p ≡ stops 1 → peek m p ≡ refused 1
+  unfolding peek
+  peek-stops e = rw e
+
+  pub peek-nothing : met m p ≡ nothing → peek m p ≡ said-done
+  unfolding peek
+  peek-nothing e = rw e
+
+  pub peek-meets : (i : ℕ) → met m p ≡ meets i → peek m p ≡ element m i
+  unfolding peek
+  peek-meets i e = rw e
+
+  pub drain-stops : met m p ≡ stops 1 → drain m p ≡ (refused 1, m)
+  unfolding drain
+  drain-stops e = rw e
+
+  pub drain-nothing : met m p ≡ nothing → drain m p ≡ (said-done, m)
+  unfolding drain
+  drain-nothing e = rw e
+
+  pub drain-meets : (i : ℕ) → met m p ≡ meets i → m .head .count ≢ 0 → drain m p ≡ (element m i, emptied m i)
+  unfolding drain leavingFrom
+  drain-meets i e ne = rw (e, ne-eqb (m .head .count) 0 ne)
+
+  pub drain-uncounted : (i : ℕ) → met m p ≡ meets i → m .head .count ≡ 0 → drain m p ≡ (refused 5, m)
+  unfolding drain leavingFrom
+  drain-uncounted i e z = rw (e, eq-eqb (m .head .count) 0 z)
+
+-- a drain step leaves the map as it is, or empties the slot ahead
+pub by-drain : (P : Map → Type 0) (m : Map) (p : ℕ) → P m → ((i : ℕ) → Meets m p i → P (emptied m i)) → P (drain m p .1)
+by-drain P m p same less =
+    by-met m p
+    (λ h. rw (drain-stops m p h) same)
+    (λ h. rw (drain-nothing m p h) same)
+    (λ i h. by-cases (ℕ-discrete (m .head .count) 0)
+    (λ z. rw (drain-uncounted m p i h z) same)
+    (λ ne. rw (drain-meets m p i h ne) (less i (meeting m p i h))))
+
+-- ---- from a look to a drain step
+
+-- a look that finds an element
 pub record Seen (m : Map) (p k x q : ℕ) : Type 0 where
   pub at : met m p ≡ meets (q - 1)
   pub one : 1 ≤ q
@@ -44,47 +101,38 @@ element-inj : (k x q k′ x′ q′ : ℕ) → said-element k x q ≡ said-eleme
 element-inj k x q k′ x′ q′ e = (cc, cc, cc)
 
 pub seen : (m : Map) (p k x q : ℕ) → said-element k x q ≡ peek m p → Seen m p k x q
-unfolding peek
-seen m p k x q e = go (met m p) refl e
-  where
-    go : (w : Met) → met m p ≡ w → said-element k x q ≡ looked m w → Seen m p k x q
-    go (meets i) at h =
-        let w = element-inj _ _ _ _ _ _ h in
-        let n : i ≡ q - 1 = omega (arith, w .2) in
-        record { at = at ∙ ap meets n; one = omega (arith, w .2); key = w .0 ∙ ap (keyAt m) n; value = w .1 ∙ ap (val m) n }
-    go nothing at h = let z : _≡_ {A = ℕ} 0 1 = cc in absurd (omega arith)
-    go (stops r) at h = let z : _≡_ {A = ℕ} 0 1 = cc in absurd (omega arith)
-
--- ---- the drain step
+seen m p k x q e =
+    by-met m p
+    (λ h. let f = e ∙ peek-stops m p h in let z : _≡_ {A = ℕ} 0 1 = cc in absurd (omega arith))
+    (λ h. let f = e ∙ peek-nothing m p h in let z : _≡_ {A = ℕ} 0 1 = cc in absurd (omega arith))
+    (λ i h.
+    let w = element-inj _ _ _ _ _ _ (e ∙ peek-meets m p i h) in
+    let n : i ≡ q - 1 = omega (arith, w .2) in
+    record { at = h ∙ ap meets n; one = omega (arith, w .2); key = w .0 ∙ ap (keyAt m) n; value = w .1 ∙ ap (val m) n })
 
 module _ (m : Map) (p k x q : ℕ) (h : Seen m p k x q) where
   pub seen-high : q - 1 < length (m .versions)
   seen-high = let w = meeting m p (q - 1) (h .at) in omega (arith, w .below, shaped m (w .shape))
 
   pub drain-empty : m .head .count ≡ 0 → drain m p ≡ (refused 5, m)
-  unfolding drain leavingFrom
-  drain-empty e = rw (h .at, eq-eqb (m .head .count) 0 e)
+  drain-empty z = drain-uncounted m p (q - 1) (h .at) z
 
   pub drain-takes : m .head .count ≢ 0 → drain m p ≡ (said-element k x q, emptied m (q - 1))
-  unfolding drain leavingFrom
-  drain-takes e =
+  drain-takes ne =
       let n : q - 1 + 1 ≡ q = omega (arith, h .one) in
-      rw (h .at, ne-eqb (m .head .count) 0 e, h .key, h .value) (ap (λ (z : ℕ). (said-element (keyAt m (q - 1)) (val m (q - 1)) z, emptied m (q - 1))) n)
+      drain-meets m p (q - 1) (h .at) ne
+      ∙ rw (h .key, h .value) (ap (λ (z : ℕ). (said-element (keyAt m (q - 1)) (val m (q - 1)) z, emptied m (q - 1))) n)
 
 pub drain-done : (m : Map) (p : ℕ) → said-done ≡ peek m p → drain m p ≡ (said-done, m)
-unfolding drain peek
-drain-done m p e = go (met m p) e
-  where
-    go : (w : Met) → said-done ≡ looked m w → drained m w ≡ (said-done, m)
-    go (meets i) h = let z : _≡_ {A = ℕ} 0 1 = cc in absurd (omega arith)
-    go nothing h = refl
-    go (stops r) h = let z : _≡_ {A = ℕ} 0 1 = cc in absurd (omega arith)
+drain-done m p e =
+    by-met m p
+    (λ h. let f = e ∙ peek-stops m p h in let z : _≡_ {A = ℕ} 0 1 = cc in absurd (omega arith))
+    (λ h. drain-nothing m p h)
+    (λ i h. let f = e ∙ peek-meets m p i h in let z : _≡_ {A = ℕ} 0 1 = cc in absurd (omega arith))
 
 pub drain-refused : (m : Map) (p r : ℕ) → refused r ≡ peek m p → drain m p ≡ (refused r, m)
-unfolding drain peek
-drain-refused m p r e = go (met m p) e
-  where
-    go : (w : Met) → refused r ≡ looked m w → drained m w ≡ (refused r, m)
-    go (meets i) h = let z : _≡_ {A = ℕ} 0 1 = cc in absurd (omega arith)
-    go nothing h = let z : _≡_ {A = ℕ} 0 1 = cc in absurd (omega arith)
-    go (stops j) h = let z : r ≡ j = cc in ap (λ (n : ℕ). (refused n, m)) (sym z)
+drain-refused m p r e =
+    by-met m p
+    (λ h. let f = e ∙ peek-stops m p h in let z : r ≡ 1 = cc in drain-stops m p h ∙ ap (λ (n : ℕ). (refused n, m)) (sym z))
+    (λ h. let f = e ∙ peek-nothing m p h in let z : _≡_ {A = ℕ} 0 1 = cc in absurd (omega arith))
+    (λ i h. let f = e ∙ peek-meets m p i h in let z : _≡_ {A = ℕ} 0 1 = cc in absurd (omega arith))

@@ -82,7 +82,7 @@ settled-full : (n c w v : ℕ) → w ≡ 0 → v ≢ 0 → n - 1 ≤ c → settl
 unfolding settled
 settled-full n c w v z ne r = let no : w ≢ v = λ e. omega (arith, ne) in rw (ne-eqb w v no, eq-eqb w 0 z, le-ltb c (n - 1) r)
 
-pub fateBy : {m : Map} {key : KeyData} → Way m key → Fate
+unfoldable pub fateBy : {m : Map} {key : KeyData} → Way m key → Fate
 fateBy (unshaped sh) = bars 1
 fateBy (null sh n) = ignores
 fateBy (at-zero sh n z) = bars 9
@@ -117,7 +117,7 @@ fate-way m key od (new p l r) = fate-above m key (p .shape) (p .some) (p .low) (
 fate-way m key od (new-crowded p l r) = fate-above m key (p .shape) (p .some) (p .low) (p .high) l ∙ settled-full (key .idx + 1) _ 0 _ refl od (omega arith)
 
 -- the map before is m, also where the definition says the grown map: only a slot that is made grows it
-pub outBy : {m : Map} {key : KeyData} → Way m key → ℕ → Out
+unfoldable pub outBy : {m : Map} {key : KeyData} → Way m key → ℕ → Out
 outBy {m} (unshaped sh) x = (refused 1, m)
 outBy {m} (null sh n) x = (said-ignored, m)
 outBy {m} (at-zero sh n z) x = (refused 9, m)
