@@ -22,8 +22,12 @@ count-some P n x l p = omega (arith, count-minus P x n l p)
 -- one that does not pass is not
 pub count-gap : (P : ℕ → Bool) (n x : ℕ) → x < n → P x ≡ false → count P n < n
 count-gap P n x l p =
-    omega (arith, count-always n, count-minus always x n l (always-true x),
-    count-inj n P n (minus always x) (λ k. k) (λ k b q. (b, minus-true always x k (λ e. true-false q (ap P e ∙ p)) (always-true k))) (λ j k b m q r e. e))
+    omega (
+      arith,
+      count-always n,
+      count-minus always x n l (always-true x),
+      count-inj n P n (minus always x) (λ k. k) (λ k b q. (b, minus-true always x k (λ e. true-false q (ap P e ∙ p)) (always-true k))) (λ j k b m q r e. e),
+    )
 
 -- nor are two
 pub count-room : (P : ℕ → Bool) (n x y : ℕ) → x < n → y < n → x ≢ y → P x ≡ false → P y ≡ false → count P n + 2 ≤ n

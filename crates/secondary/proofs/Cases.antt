@@ -5,8 +5,8 @@ use mathlib.Core.Bool.{true, false}
 use Prim.Native.Nat.{ℕ, _<_}
 use native.Mathlib.Omega.{arith}
 use lib.ListN.{length}
-use borrow.Author.Tests.{eq-eqb, ne-eqb}
-use Rattle.lists.proofs.Tests.{split, parts}
+use borrow.Author.Tests.{eq-eqb, ne-eqb, lt-ltb}
+use Rattle.lists.proofs.Tests.{split, parts, and-true}
 use Rattle.keys.specs.Keys.{idx, version}
 use Rattle.secondary.specs.Map.{Map, ver, val, hasShape, isThere, absent, withValue, emptied}
 use Rattle.secondary.specs.Calls.{said-value, refused, found, fails, slotIn, slot, lookup, put, leavingFrom, leaving, remove}
@@ -19,6 +19,10 @@ pub record There (m : Map) (i v : ℕ) : Type 0 where
 pub there : (m : Map) (i v : ℕ) → isThere m i v ≡ true → There m i v
 unfolding isThere
 there m i v e = search parts
+
+pub there-true : (m : Map) (i v : ℕ) → i < m .head .s → ver m i ≡ v → isThere m i v ≡ true
+unfolding isThere
+there-true m i v l e = and-true (lt-ltb i (m .head .s) l) (eq-eqb (ver m i) v e)
 
 -- the three things that can be of a map and a key
 pub by-slot {ℓ} : {A : Type ℓ} (m : Map) (k : ℕ) → (hasShape m ≡ false → A) → (hasShape m ≡ true → isThere m (idx k) (version k) ≡ false → A)
@@ -49,7 +53,7 @@ module _ (m : Map) (k : ℕ) where
     -- ---- the key is not there
 
     module _ (e : isThere m (idx k) (version k) ≡ false) where
-      slot-absent : slot m k ≡ fails (absent m (idx k) (version k))
+      pub slot-absent : slot m k ≡ fails (absent m (idx k) (version k))
       unfolding slot slotIn
       slot-absent = rw (sh, e)
 
@@ -68,7 +72,7 @@ module _ (m : Map) (k : ℕ) where
     -- ---- the key is there
 
     module _ (e : isThere m (idx k) (version k) ≡ true) where
-      slot-there : slot m k ≡ found (idx k)
+      pub slot-there : slot m k ≡ found (idx k)
       unfolding slot slotIn
       slot-there = rw (sh, e)
 

@@ -45,8 +45,11 @@ module _ (m : Map) (w : Whole m) where
   -- a vacant slot leaves room for an element
   pub whole-room : (i : ℕ) → i < m .head .s → i ≢ 0 → ver m i ≡ 0 → m .head .count < m .head .s - 1
   whole-room i l ne e =
-      omega (arith, w .counted,
-      count-room (isOccupied m) (m .head .s) 0 i (shaped m (w .shape) .low) l (λ z. ne (sym z)) (unoccupied m 0 (w .first)) (unoccupied m i e))
+      omega (
+        arith,
+        w .counted,
+        count-room (isOccupied m) (m .head .s) 0 i (shaped m (w .shape) .low) l (λ z. ne (sym z)) (unoccupied m 0 (w .first)) (unoccupied m i e),
+      )
 
   -- ---- an element leaves
 
@@ -62,9 +65,14 @@ module _ (m : Map) (w : Whole m) where
             (λ e. inl (ap (ver (emptied m i)) e ∙ at))
             (λ no. rw (emptied-off m i j no) (w .each j (rw (emptied-slots m i) at b)));
         counted =
-            omega (arith, w .counted, emptied-count m i, ap (count (isOccupied (emptied m i))) (emptied-slots m i),
-            count-falls (isOccupied m) (isOccupied (emptied m i)) (m .head .s) i l (occupied m i ne) (unoccupied (emptied m i) i at)
-            (λ j no. occupied-same m (emptied m i) j (emptied-off m i j no)));
+            omega (
+              arith,
+              w .counted,
+              emptied-count m i,
+              ap (count (isOccupied (emptied m i))) (emptied-slots m i),
+              count-falls (isOccupied m) (isOccupied (emptied m i)) (m .head .s) i l (occupied m i ne) (unoccupied (emptied m i) i at)
+                  (λ j no. occupied-same m (emptied m i) j (emptied-off m i j no)),
+            );
       }
 
   -- ---- an element enters
@@ -92,9 +100,12 @@ module _ (m : Map) (w : Whole m) where
       let u = stored m i v x (m .head .count + 1) in
       let at : ver u i ≡ v = stored-at m i v x _ (omega (arith, shaped m (w .shape))) in
       stored-whole i v x _ l low od
-      (omega (arith, w .counted,
-      count-falls (isOccupied u) (isOccupied m) (m .head .s) i l (occupied u i (λ z. odd-some v od (sym at ∙ z))) (unoccupied m i e)
-      (λ j ne. sym (occupied-same m u j (stored-off m i v x _ j ne)))))
+      (omega (
+        arith,
+        w .counted,
+        count-falls (isOccupied u) (isOccupied m) (m .head .s) i l (occupied u i (λ z. odd-some v od (sym at ∙ z))) (unoccupied m i e)
+            (λ j ne. sym (occupied-same m u j (stored-off m i v x _ j ne))),
+      ))
 
   -- over another element
   pub whole-over : (i v x : ℕ) → i < m .head .s → ver m i ≢ 0 → v % 2 ≡ 1 → Whole (stored m i v x (m .head .count))

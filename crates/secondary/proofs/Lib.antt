@@ -10,5 +10,6 @@ pub mod Drains
 pub mod Cases
 pub mod Ways
 pub mod Wholes
+pub mod Elements
 pub mod Sieves
 pub mod Clears

@@ -9,12 +9,15 @@ use lib.Dec.{eqb}
 use lib.ListN.{length}
 use borrow.Author.Tests.{eqb-true, eqb-false, eq-eqb, ne-eqb}
 use Rattle.lists.proofs.Tests.{split}
+use Rattle.keys.specs.Keys.{W}
 use Rattle.secondary.specs.Map.{Map, ver, val, isOccupied, hasShape, emptied}
+use Rattle.secondary.specs.Calls.{Out, remove, keyAt}
 use Rattle.secondary.specs.Whole.{Whole}
 use Rattle.secondary.specs.Sweeps.{sieved, retaining}
 use Rattle.secondary.proofs.Shaped.{Shaped, shaped}
-use Rattle.secondary.proofs.Slots.{emptied-at, emptied-off, emptied-values, emptied-slots}
+use Rattle.secondary.proofs.Slots.{emptied-at, emptied-off, emptied-values, emptied-slots, emptied-length}
 use Rattle.secondary.proofs.Keeps.{whole-emptied}
+use Rattle.secondary.proofs.Elements.{remove-element}
 
 -- the version that a slot has afterwards
 pub sifted : (ℕ → ℕ → Bool) → ℕ → Map → ℕ
@@ -61,6 +64,13 @@ module _ (keeps : ℕ → ℕ → Bool) where
       (λ k. ap (λ (u : Map). u .values) (sieved-kept i m k))
       (λ ne k. ap (λ (u : Map). u .values) (sieved-dropped i m ne k) ∙ emptied-values m i)
 
+  pub sieved-length : (i : ℕ) (m : Map) → length (sieved keeps i m .versions) ≡ length (m .versions)
+  sieved-length i m =
+      by-sieve i m
+      (λ z. ap (λ (u : Map). length (u .versions)) (sieved-vacant i m z))
+      (λ k. ap (λ (u : Map). length (u .versions)) (sieved-kept i m k))
+      (λ ne k. ap (λ (u : Map). length (u .versions)) (sieved-dropped i m ne k) ∙ emptied-length m i)
+
   sieved-at : (i : ℕ) (m : Map) → i < length (m .versions) → ver (sieved keeps i m) i ≡ sifted keeps i m
   unfolding sifted
   sieved-at i m l =
@@ -75,6 +85,12 @@ module _ (keeps : ℕ → ℕ → Bool) where
       (λ z. ap (λ (u : Map). ver u j) (sieved-vacant i m z))
       (λ k. ap (λ (u : Map). ver u j) (sieved-kept i m k))
       (λ ne k. ap (λ (u : Map). ver u j) (sieved-dropped i m ne k) ∙ emptied-off m i j off)
+
+  -- a dropped element is removed by its key
+  pub sieved-removed : (i : ℕ) (m : Map) (k : ℕ) → Whole m → i < m .head .s → ver m i ≢ 0 → ver m i < W → keeps i (val m i) ≡ false → k ≡ keyAt m i
+      → remove m k .1 ≡ sieved keeps i m
+  sieved-removed i m k w l ne word d e =
+      ap (λ (j : ℕ). remove m j .1) e ∙ ap (λ (o : Out). o .1) (remove-element m w i l ne word) ∙ sym (sieved-dropped i m ne d)
 
   -- ---- n slots, from slot i on
 

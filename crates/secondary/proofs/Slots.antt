@@ -37,6 +37,10 @@ module _ (m : Map) (i : ℕ) where
   unfolding emptied
   emptied-count = refl
 
+  pub emptied-length : length (emptied m i .versions) ≡ length (m .versions)
+  unfolding emptied
+  emptied-length = length-set (m .versions) i 0
+
   pub emptied-shape : hasShape m ≡ true → hasShape (emptied m i) ≡ true
   unfolding emptied
   emptied-shape sh = let h = shaped m sh in shape-true (emptied m i) (omega (arith, h, length-set (m .versions) i 0))
