@@ -1,5 +1,6 @@
 pub mod Tests
 pub mod Only
 pub mod Count
+pub mod Changes
 pub mod Once
 pub mod Put
