@@ -4,3 +4,4 @@ pub mod Stores
 pub mod Count
 pub mod Once
 pub mod Put
+pub mod Among

@@ -30,3 +30,4 @@ pub mod Full
 pub mod Counted
 pub mod Turns
 pub mod Reissue
+pub mod Marking
