@@ -3,12 +3,13 @@ use mathlib.Core.Path.{_≡_, refl, sym, ap, _∙_}
 use mathlib.Core.Logic.{_≢_, _⊎_, inl, inr, by-cases, ⊎-elim}
 use mathlib.Core.Bool.{Bool, true, false, cond, _&&_}
 use Prim.Native.Nat.{ℕ, zero, suc, _+_, _≤_, _<_, zero-le}
+use native.Mathlib.Numerals.{add-one}
 use native.Mathlib.Omega.{arith}
 use native.Mathlib.Decide.{ℕ-discrete}
 use lib.Dec.{eqb}
 use borrow.Author.Tests.{eq-eqb, ne-eqb}
 use Rattle.lists.specs.Count.{count, every}
-use Rattle.lists.proofs.Tests.{split, and-true, and-left, and-right}
+use Rattle.lists.proofs.Tests.{split, true-false, and-true, and-left, and-right, false-if}
 
 pub always : ℕ → Bool
 always k = true
@@ -109,3 +110,36 @@ find-below g x (suc n) =
     (λ q. inl (q .0, omega (arith, q .1), q .2))
     (λ none. inr (λ p h e. by-cases (ℕ-discrete p n) (λ q. ne (ap g (sym q) ∙ e)) (λ nq. none p (omega arith) e)))
     (find-below g x n))
+
+-- ---- a loop upwards: what it knows below i, a turn of it, and its end
+
+pub record Tally (P : ℕ → Bool) (i m : ℕ) : Type 0 where
+  pub few : m ≤ i
+  pub same : m ≡ count P i
+
+module _ (P : ℕ → Bool) where
+  pub tally-none : Tally P 0 0
+  tally-none = record { few = omega arith; same = sym (count-zero P) }
+
+  pub tally-yes : (i : ℕ) {m k : ℕ} → Tally P i m → P i ≡ true → k ≡ m + 1 → Tally P (i + 1) k
+  tally-yes i w h e = record { few = omega arith; same = rw (add-one i) (omega (arith, count-yes P i h)) }
+
+  pub tally-no : (i : ℕ) {m k : ℕ} → Tally P i m → P i ≡ false → k ≡ m → Tally P (i + 1) k
+  tally-no i w h e = record { few = omega arith; same = rw (add-one i) (omega (arith, count-no P i h)) }
+
+  pub tally-all : {n i m : ℕ} → Tally P i m → i ≤ n → n ≤ i → m ≡ count P n
+  tally-all {n} {i} w h l = let e : i ≡ n = omega arith in w .same ∙ ap (count P) e
+
+  pub every-none : every P 0 ≡ true
+  unfolding every
+  every-none = refl
+
+  pub every-yes : (i : ℕ) → every P i ≡ true → P i ≡ true → every P (i + 1) ≡ true
+  unfolding every
+  every-yes i e h = rw (add-one i) (and-true h e)
+
+  pub every-no : {n i : ℕ} → i < n → P i ≡ false → false ≡ every P n
+  every-no {n} {i} l h = sym (false-if (every P n) (λ e. true-false (every-at P n e i l) h))
+
+  pub every-all : {n i : ℕ} → every P i ≡ true → i ≤ n → n ≤ i → true ≡ every P n
+  every-all {n} {i} e h l = let q : i ≡ n = omega arith in sym e ∙ ap (every P) q

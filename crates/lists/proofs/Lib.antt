@@ -1,6 +1,5 @@
 pub mod Tests
 pub mod Only
-pub mod Stores
 pub mod Count
 pub mod Once
 pub mod Put

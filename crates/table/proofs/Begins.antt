@@ -17,7 +17,7 @@ use Rattle.table.specs.Sound.{Sound}
 use Rattle.table.specs.Steps.{Call, step, after, history}
 use Rattle.table.specs.Reading.{Change, nothing, issued, returned, revalued, dies, parts, sieved, change, Reading, blank, changed, reading, valueIn, isIn}
 use Rattle.table.proofs.Changes.{livesAfter, detachedAfter}
-use Rattle.table.proofs.Readings.{keysOf, mem-value, mem-in, value-changed, detached-changed, Begins as Starts, once-changed, once-detached, without-sublist, sifted-sublist, valued-sublist, except-sublist}
+use Rattle.table.proofs.Readings.{keysOf, mem-value, mem-in, value-changed, detached-changed, NewKey, once-changed, once-detached, without-sublist, sifted-sublist, valued-sublist, except-sublist}
 use Rattle.table.proofs.Judged.{Live, live}
 use Rattle.table.proofs.Facts.{Detached, detached-facts, facts-detached, not-detached}
 use Rattle.table.proofs.Orderly.{Orderly, orderly}
@@ -157,7 +157,7 @@ module _ (t : Table) (base : Reading) (b : Begins t base) where
   pub base-detached : (k : ℕ) → List·Memᴰ k (base .detached) → Detached t (idx k) (version k)
   base-detached k m = detached-facts t _ _ (sym (base-away k (b .detached-read k m)) ∙ mem-in (base .detached) k m)
 
-  begins-new : (c : Change) → Fits t c → Starts c base
+  begins-new : (c : Change) → Fits t c → NewKey c base
   begins-new nothing f = tt
   begins-new (issued k x) f = base-value k (f .read) ∙ f .lost
   begins-new (returned k x) f = base-value k (f .read) ∙ f .lost

@@ -92,7 +92,7 @@ module _ (u : Table) (p q : ℕ) where
 
   filled-link : (j : ℕ) → j ≢ idx (key u q) → link (filled u p q) j ≡ link u j
   unfolding filled
-  filled-link j ne = getD-set-other (u .links) (idx (key u q)) j p 0 ne
+  filled-link j ne = getD-set-other (u .links) (idx (key u q)) j _ 0 ne
 
   filled-place : (r : ℕ) → r ≢ p → SamePlace u (filled u p q) r
   unfolding filled
@@ -100,7 +100,7 @@ module _ (u : Table) (p q : ℕ) where
 
   filled-lengths : SameLengths u (filled u p q)
   unfolding filled
-  filled-lengths = (refl, length-set (u .links) _ p, length-set (u .keys) p _, length-set (u .values) p _)
+  filled-lengths = (refl, length-set (u .links) _ _, length-set (u .keys) p _, length-set (u .values) p _)
 
 module _ (t : Table) (i l : ℕ) (head′ : Header) where
   -- an element leaves a freed slot, and perhaps the last one is moved
@@ -108,7 +108,7 @@ module _ (t : Table) (i l : ℕ) (head′ : Header) where
   unfolding left
   left-either P = either P (eqb (link t i) (last t)) (freed t i l head′) (filled (freed t i l head′) (link t i) (last t))
 
-  left-slot : (j : ℕ) → j ≢ i → SameUnlessMoved t (left t i l head′) j
+  pub left-slot : (j : ℕ) → j ≢ i → SameUnlessMoved t (left t i l head′) j
   left-slot j ne =
       let s = freed-slot t i l head′ j ne in
       let moved = freed-place t i l head′ (last t) .0 in
@@ -116,13 +116,13 @@ module _ (t : Table) (i l : ℕ) (head′ : Header) where
       (s .0, λ _. s .1)
       (filled-version (freed t i l head′) (link t i) (last t) j ∙ s .0, λ nl. filled-link (freed t i l head′) (link t i) (last t) j (λ e. nl (e ∙ ap idx moved)) ∙ s .1)
 
-  left-place : (p : ℕ) → p ≢ link t i → SamePlace t (left t i l head′) p
+  pub left-place : (p : ℕ) → p ≢ link t i → SamePlace t (left t i l head′) p
   left-place p ne =
       let s = freed-place t i l head′ p in
       let f = filled-place (freed t i l head′) (link t i) (last t) p ne in
       left-either (λ (u : Table). SamePlace t u p) s (f .0 ∙ s .0, f .1 ∙ s .1)
 
-  left-lengths : SameLengths t (left t i l head′)
+  pub left-lengths : SameLengths t (left t i l head′)
   left-lengths =
       let s = freed-lengths t i l head′ in
       let f = filled-lengths (freed t i l head′) (link t i) (last t) in

@@ -2,22 +2,19 @@
 -- and that what is left is as orderly as before. Assumes nothing.
 use mathlib.Core.Path.{_≡_, refl, sym, ap, _∙_, subst}
 use mathlib.Core.Logic.{_≢_, inl, inr, by-cases, ⊎-elim}
-use mathlib.Core.Bool.{Bool, true, false, cond}
 use mathlib.Core.List.{List, _∷_, List·Memᴰ·head, List·Memᴰ·tail}
 use Prim.Native.Nat.{ℕ, suc, _-_, _%_, _≤_, _<_}
 use native.Mathlib.Omega.{arith}
 use native.Mathlib.Decide.{ℕ-discrete}
-use lib.ListN.{set, length-set}
-use lib.Seq.{getD-set-same, getD-set-other}
-use lib.Dec.{eqb}
-use borrow.Author.Tests.{eqb-true, eqb-false, eq-eqb}
-use Rattle.lists.proofs.Stores.{moved-length, moved-at, moved-off, two-length, two-second, two-first, two-off}
+use lib.ListN.{length, set}
+use lib.Seq.{getD-set-same, getD-set-other, lt-length-set}
+use borrow.Author.Tests.{eq-eqb, ne-eqb}
 use Rattle.keys.specs.Keys.{W, far, idx, up}
 use Rattle.table.specs.declared.Header.{Header}
 use Rattle.table.specs.Table.{Table, ver, link, key, val, last, lastIdx, freedHead, partedHead, freed, filled, left}
 use Rattle.table.specs.Sound.{Vacant, Home}
 use Rattle.table.proofs.Shape.{Shape}
-use Rattle.table.proofs.Frames.{SameLengths}
+use Rattle.table.proofs.Frames.{SameLengths, left-either, left-slot, left-place, left-lengths}
 use Rattle.table.proofs.Facts.{shape-like}
 use Rattle.table.proofs.Chains.{Chain, chain-vacant, chain-frame}
 use Rattle.table.proofs.Orderly.{Orderly, Occupied, home-by}
@@ -150,36 +147,25 @@ module _ (t u : Table) (a : Orderly t) (i : ℕ) (oi : Occupied t i) (c : Leaves
             (λ ne. let was = was-vacant k ne v in ⊎-elim inl (λ x. inr (same-slot k (was .even) .1 ∙ x)) (a .evens k was));
       }
 
--- ---- `left` array by array, with the test inside
-
-abbrev leftBy : Bool → Table → ℕ → ℕ → Header → Table
-leftBy b t i l head′ =
-    record {
-      versions = set (t .versions) i (up (ver t i));
-      links = cond b (set (t .links) i l) (set (set (t .links) i l) (lastIdx t) (link t i));
-      keys = cond b (t .keys) (set (t .keys) (link t i) (key t (last t)));
-      values = cond b (t .values) (set (t .values) (link t i) (val t (last t)));
-      head = head′;
-    }
-
-left-by : (b : Bool) (t : Table) (i l : ℕ) (head′ : Header) → cond b (freed t i l head′) (filled (freed t i l head′) (link t i) (last t)) ≡ leftBy b t i l head′
-unfolding freed filled
-left-by true t i l head′ = refl
-left-by false t i l head′ = refl
-
-left-is : (t : Table) (i l : ℕ) (head′ : Header) → left t i l head′ ≡ leftBy (eqb (link t i) (last t)) t i l head′
-unfolding left
-left-is t i l head′ = left-by (eqb (link t i) (last t)) t i l head′
-
-pub left-head : (t : Table) (i l : ℕ) (head′ : Header) → left t i l head′ .head ≡ head′
-left-head t i l head′ = ap (λ (u : Table). u .head) (left-is t i l head′)
-
--- the last element needs no move: a drain step frees its slot alone
-pub left-last : (t : Table) (i l : ℕ) (head′ : Header) → link t i ≡ last t → left t i l head′ ≡ freed t i l head′
-unfolding left
-left-last t i l head′ e = rw (eq-eqb _ _ e)
-
 -- ---- what is left is a leaving
+
+module _ (t : Table) (i l : ℕ) (head′ : Header) where
+  -- the last element needs no move: a drain step frees its slot alone
+  pub left-last : link t i ≡ last t → left t i l head′ ≡ freed t i l head′
+  unfolding left
+  left-last e = rw (eq-eqb _ _ e)
+
+  left-moved : link t i ≢ last t → left t i l head′ ≡ filled (freed t i l head′) (link t i) (last t)
+  unfolding left
+  left-moved ne = rw (ne-eqb _ _ ne)
+
+  left-cases : (P : Table → Type 0) → (link t i ≡ last t → P (freed t i l head′)) → (link t i ≢ last t → P (filled (freed t i l head′) (link t i) (last t))) → P (left t i l head′)
+  left-cases P same moved =
+      by-cases (ℕ-discrete (link t i) (last t)) (λ e. subst P (sym (left-last e)) (same e)) (λ ne. subst P (sym (left-moved ne)) (moved ne))
+
+  pub left-head : left t i l head′ .head ≡ head′
+  unfolding freed filled
+  left-head = left-either t i l head′ (λ (u : Table). u .head ≡ head′) refl refl
 
 module _ (t : Table) (a : Orderly t) (i l : ℕ) (head′ : Header) (oi : Occupied t i) where
   there : link t i < t .head .n
@@ -188,39 +174,60 @@ module _ (t : Table) (a : Orderly t) (i l : ℕ) (head′ : Header) (oi : Occupi
   last-there : Home t (last t)
   last-there = a .home (last t) (omega (arith, there))
 
-  same-place : eqb (link t i) (last t) ≡ true → lastIdx t ≡ i
-  same-place e = ap (λ (m : ℕ). idx (key t m)) (sym (eqb-true _ _ e)) ∙ a .odds i (oi .high) (oi .odd) .1
+  same-slot-last : link t i ≡ last t → lastIdx t ≡ i
+  same-slot-last e = ap (λ (m : ℕ). idx (key t m)) (sym e) ∙ a .odds i (oi .high) (oi .odd) .1
 
-  other-place : eqb (link t i) (last t) ≡ false → i ≢ lastIdx t
-  other-place e x = eqb-false _ _ e (ap (link t) x ∙ last-there .back)
+  other-slot-last : link t i ≢ last t → i ≢ lastIdx t
+  other-slot-last ne x = ne (ap (link t) x ∙ last-there .back)
+
+  in-links : (j : ℕ) → j < t .head .s → j < length (t .links)
+  in-links j h = omega (arith, h, a .shape)
+
+  left-version : ver (left t i l head′) i ≡ up (ver t i)
+  unfolding freed filled
+  left-version =
+      let e = getD-set-same (t .versions) i (up (ver t i)) 0 (omega (arith, oi, a .shape)) in
+      left-cases t i l head′ (λ (u : Table). ver u i ≡ up (ver t i)) (λ _. e) (λ _. e)
+
+  left-moved-link : lastIdx t ≢ i → link (left t i l head′) (lastIdx t) ≡ link t i
+  unfolding freed filled
+  left-moved-link ne =
+      left-cases t i l head′ (λ (u : Table). link u (lastIdx t) ≡ link t i)
+      (λ e. absurd (ne (same-slot-last e)))
+      (λ _. getD-set-same (set (t .links) i l) (lastIdx t) _ 0 (lt-length-set (t .links) i l (in-links _ (last-there .high))))
+
+  left-moved-key : key (left t i l head′) (link t i) ≡ key t (last t)
+  unfolding freed filled
+  left-moved-key =
+      left-cases t i l head′ (λ (u : Table). key u (link t i) ≡ key t (last t)) (ap (key t)) (λ _. getD-set-same (t .keys) _ _ 0 (omega (arith, there, a .shape)))
+
+  left-moved-value : val (left t i l head′) (link t i) ≡ val t (last t)
+  unfolding freed filled
+  left-moved-value =
+      left-cases t i l head′ (λ (u : Table). val u (link t i) ≡ val t (last t)) (ap (val t)) (λ _. getD-set-same (t .values) _ _ 0 (omega (arith, there, a .shape)))
 
   pub left-leaves : head′ .n ≡ t .head .n - 1 → head′ .s ≡ t .head .s → Leaves t (left t i l head′) i
   left-leaves hn hs =
-      let b = eqb (link t i) (last t) in
-      let p : link t i < t .head .n = there in
-      let j : lastIdx t < t .head .s = last-there .high in
-      let s = a .shape in
-      rw (left-is t i l head′, hn) (record {
-        count = omega arith;
-        slots = hs;
-        lengths = (
-          length-set (t .versions) _ _,
-          two-length (eqb (link t i) (last t)) (t .links) _ _ _ _,
-          moved-length (eqb (link t i) (last t)) (t .keys) _ _,
-          moved-length (eqb (link t i) (last t)) (t .values) _ _,
-        );
-        ver-at = getD-set-same (t .versions) i _ 0 (omega (arith, s, oi));
-        ver-off = λ k ne. getD-set-other (t .versions) i k _ 0 ne;
-        link-moved = λ ne. two-second (eqb (link t i) (last t)) (t .links) i _ l _ same-place ne (omega (arith, s));
-        link-off = λ k n1 n2. two-off (eqb (link t i) (last t)) (t .links) i _ l _ k n1 n2;
-        key-moved = moved-at (eqb (link t i) (last t)) (t .keys) _ _ (eqb-true _ _) (omega (arith, s));
-        key-off = λ r ne. moved-off (eqb (link t i) (last t)) (t .keys) _ _ r ne;
-        val-moved = moved-at (eqb (link t i) (last t)) (t .values) _ _ (eqb-true _ _) (omega (arith, s));
-        val-off = λ r ne. moved-off (eqb (link t i) (last t)) (t .values) _ _ r ne;
-      })
+      let n : left t i l head′ .head .n ≡ last t = ap (λ (h : Header). h .n) (left-head t i l head′) ∙ hn in
+      record {
+        count = omega (arith, n, there);
+        slots = ap (λ (h : Header). h .s) (left-head t i l head′) ∙ hs;
+        lengths = left-lengths t i l head′;
+        ver-at = left-version;
+        ver-off = λ k ne. left-slot t i l head′ k ne .0;
+        link-moved = rw n left-moved-link;
+        link-off = rw n (λ k ni nl. left-slot t i l head′ k ni .1 nl);
+        key-moved = rw n left-moved-key;
+        key-off = λ r ne. left-place t i l head′ r ne .0;
+        val-moved = rw n left-moved-value;
+        val-off = λ r ne. left-place t i l head′ r ne .1;
+      }
 
   pub left-link : link (left t i l head′) i ≡ l
-  left-link = rw (left-is t i l head′) (two-first (eqb (link t i) (last t)) (t .links) i _ l _ other-place (omega (arith, a .shape, oi)))
+  unfolding freed filled
+  left-link =
+      let e = getD-set-same (t .links) i l 0 (in-links i (oi .high)) in
+      left-cases t i l head′ (λ (u : Table). link u i ≡ l) (λ _. e) (λ ne. getD-set-other (set (t .links) i l) (lastIdx t) i _ 0 (other-slot-last ne) ∙ e)
 
 -- ---- the two ways to leave: to the free list, and detached
 

@@ -30,4 +30,7 @@ pub mod Full
 pub mod Counted
 pub mod Turns
 pub mod Reissue
+pub mod Checking
+pub mod Listed
+pub mod Chained
 pub mod Marking

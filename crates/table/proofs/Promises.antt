@@ -2,7 +2,7 @@
 -- for every number given as a key; and the key that an insert answers is new. Assumes nothing.
 use mathlib.Core.Path.{_≡_, refl, sym, ap, ap₂, _∙_, subst}
 use mathlib.Core.Logic.{_↔_, by-cases}
-use mathlib.Core.Bool.{Bool, false, cond}
+use mathlib.Core.Bool.{Bool, true, false, cond}
 use mathlib.Core.List.{List, [], _∷_, _++_, List·Memᴰ, List·Memᴰ·head}
 use mathlib.Core.Option.{Option, none, some}
 use Prim.Native.Nat.{ℕ, _+_, _<_}
@@ -13,7 +13,7 @@ use Rattle.lists.proofs.Tests.{split}
 use Rattle.keys.specs.Keys.{idx, version, asRead}
 use Rattle.rules.specs.declared.Rule.{Rule}
 use Rattle.table.specs.Table.{Table, link, key, val, isLive, dead, isDetached, last}
-use Rattle.table.specs.Calls.{Said, said-key, said-value, said-pair, said-done, refused, Out, lookup, put, insert, remove, detach, reattach, drain}
+use Rattle.table.specs.Calls.{Said, said-key, said-value, said-pair, said-done, said-truth, refused, Out, contains, lookup, put, insert, remove, detach, reattach, drain}
 use Rattle.table.specs.Sweeps.{retain, clear}
 use Rattle.table.specs.Sound.{Sound}
 use Rattle.table.specs.Steps.{Call, c-insert, step, after, history}
@@ -32,6 +32,10 @@ abbrev pub valueOr : Table → ℕ → Option ℕ → Said
 valueOr t k none = refused (dead t (idx k) (version k))
 valueOr t k (some v) = said-value v
 
+abbrev pub isSome : Option ℕ → Bool
+isSome none = false
+isSome (some v) = true
+
 -- ---- on a sound table, by what lookup finds
 
 module _ (t : Table) (a : Sound t) (k : ℕ) where
@@ -47,6 +51,10 @@ module _ (t : Table) (a : Sound t) (k : ℕ) where
 
   lookup-said : lookup t k .0 ≡ valueOr t k (find t k)
   lookup-said = said-by _ (λ l. answer (lookup-live t a k l)) (λ e. answer (lookup-dead t a k e))
+
+  contains-said : contains t k ≡ said-truth (isSome (find t k))
+  unfolding contains find
+  contains-said = rw (a .shape) (split (isLive t (idx k) (version k)) (λ e. rw e) (λ e. rw e))
 
   put-said : (x : ℕ) → put t k x .0 ≡ valueOr t k (find t k)
   put-said x = said-by _ (λ l. answer (put-live t a k x l)) (λ e. answer (put-dead t a k x e))
@@ -76,6 +84,10 @@ module _ (t : Table) (base : Reading) (b : Begins t base) (cs : List Call) where
 
   pub lookup-reads : (k : ℕ) → lookup (after t cs) k .0 ≡ valueOr (after t cs) k (valueIn (reading base (history t cs) .live) (asRead k))
   lookup-reads k = lookup-said (after t cs) (now .sound) k ∙ ap (valueOr (after t cs) k) (now .finds k)
+
+  -- whether a key lives may be asked
+  pub contains-reads : (k : ℕ) → contains (after t cs) k ≡ said-truth (isSome (valueIn (reading base (history t cs) .live) (asRead k)))
+  contains-reads k = contains-said (after t cs) (now .sound) k ∙ ap (λ (g : Option ℕ). said-truth (isSome g)) (now .finds k)
 
   pub put-reads : (k x : ℕ) → put (after t cs) k x .0 ≡ valueOr (after t cs) k (valueIn (reading base (history t cs) .live) (asRead k))
   put-reads k x = put-said (after t cs) (now .sound) k x ∙ ap (valueOr (after t cs) k) (now .finds k)

@@ -186,14 +186,14 @@ detached-changed (sieved keeps) r k = refl
 -- ---- no key twice
 
 -- a key begins to live, or to be detached, where it did not
-abbrev pub Begins : Change → Reading → Type 0
-Begins nothing r = Unit {0}
-Begins (issued k x) r = valueIn (r .live) k ≡ none
-Begins (returned k x) r = valueIn (r .live) k ≡ none
-Begins (revalued k x) r = Unit {0}
-Begins (dies k) r = Unit {0}
-Begins (parts k) r = isIn (r .detached) k ≡ false
-Begins (sieved keeps) r = Unit {0}
+abbrev pub NewKey : Change → Reading → Type 0
+NewKey nothing r = Unit {0}
+NewKey (issued k x) r = valueIn (r .live) k ≡ none
+NewKey (returned k x) r = valueIn (r .live) k ≡ none
+NewKey (revalued k x) r = Unit {0}
+NewKey (dies k) r = Unit {0}
+NewKey (parts k) r = isIn (r .detached) k ≡ false
+NewKey (sieved keeps) r = Unit {0}
 
 pub without-sublist : (j : ℕ) (l : List (ℕ × ℕ)) → Sublistᴰ (keysOf (without j l)) (keysOf l)
 unfolding without
@@ -227,7 +227,7 @@ except-sublist j (i ∷ l) =
     (λ q. rw q (Sublistᴰ·cons (except-sublist j l)))
     (λ q. rw q (Sublistᴰ·cons-cons refl (except-sublist j l)))
 
-pub once-changed : (c : Change) (r : Reading) → Begins c r → Once (keysOf (r .live)) → Once (keysOf (changed c r .live))
+pub once-changed : (c : Change) (r : Reading) → NewKey c r → Once (keysOf (r .live)) → Once (keysOf (changed c r .live))
 unfolding changed
 once-changed nothing r b o = o
 once-changed (issued k x) r b o = once-cons k (keysOf (r .live)) (value-none (r .live) k b) o
@@ -237,7 +237,7 @@ once-changed (dies k) r b o = once-sublist (without-sublist k (r .live)) o
 once-changed (parts k) r b o = once-sublist (without-sublist k (r .live)) o
 once-changed (sieved keeps) r b o = once-sublist (sifted-sublist keeps (r .live)) o
 
-pub once-detached : (c : Change) (r : Reading) → Begins c r → Once (r .detached) → Once (changed c r .detached)
+pub once-detached : (c : Change) (r : Reading) → NewKey c r → Once (r .detached) → Once (changed c r .detached)
 unfolding changed
 once-detached nothing r b o = o
 once-detached (issued k x) r b o = o

@@ -1,0 +1,9 @@
+pub mod Told
+pub mod Numbers
+pub mod Encoded
+pub mod Writing
+pub mod Reading
+pub mod Bounds
+pub mod Words
+pub mod Outcomes
+pub mod Vectors

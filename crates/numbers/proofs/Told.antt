@@ -1,0 +1,22 @@
+-- Answers and refusals told apart, and what follows an answer taken apart. Assumes nothing.
+use Prim.Native.Nat.{ℕ}
+use mathlib.Core.Path.{_≡_, refl, ap}
+use native.Mathlib.Omega.{arith}
+use Rattle.numbers.specs.Told.{Told, tells, refused, onward}
+
+pub never : {A B : Type 0} {k : ℕ} {a : A} → refused k ≡ tells a → B
+never e = let z : _≡_ {A = ℕ} 0 1 = cc in absurd (omega arith)
+
+pub told : {A : Type 0} {a b : A} → tells a ≡ tells b → a ≡ b
+told e = cc
+
+pub refused-same : {A : Type 0} {j k : ℕ} → _≡_ {A = Told A} (refused j) (refused k) → j ≡ k
+refused-same e = cc
+
+pub both : {A B : Type 0} {a c : A} {b d : B} → _≡_ {A = A × B} (a, b) (c, d) → (a ≡ c) × (b ≡ d)
+both {A} {B} e = (ap (λ (y : A × B). y .0) e, ap (λ (y : A × B). y .1) e)
+
+-- an answer at the end comes of an answer before it
+pub by-answer : {A B C : Type 0} (x : Told A) (f : A → Told B) (b : B) → onward x f ≡ tells b → ((a : A) → x ≡ tells a → f a ≡ tells b → C) → C
+by-answer (tells a) f b e k = k a refl e
+by-answer (refused j) f b e k = never e

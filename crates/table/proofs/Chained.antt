@@ -1,0 +1,40 @@
+-- Theorem B2: the same of the arrays themselves. Over any chain of outcomes that each meet their call's equation, as the contracts of the code do,
+-- the last table reads as the chain says; every theorem over a base then holds of it. Assumes nothing.
+use mathlib.Core.Path.{_≡_, refl, sym, subst}
+use mathlib.Core.Bool.{true}
+use mathlib.Core.List.{List, []}
+use Prim.Native.Nat.{ℕ}
+use lib.ListN.{length}
+use Rattle.keys.specs.Keys.{idx, version, asRead}
+use Rattle.table.specs.Table.{Table, lengthsFit, isDetached}
+use Rattle.table.specs.Calls.{freshTable, lookup}
+use Rattle.table.specs.Steps.{History, after, history}
+use Rattle.table.specs.Reading.{Reading, blank, reading, valueIn, isIn}
+use Rattle.table.proofs.Runs.{Run, callsOf, run-after}
+use Rattle.table.proofs.Begins.{Begins, fresh-begins, begins-after}
+use Rattle.table.proofs.Promises.{valueOr, lookup-reads}
+use Rattle.table.proofs.Listed.{count-lives}
+
+module _ (t : Table) (base : Reading) (b : Begins t base) (h : History) (u : Table) (r : Run t h u) where
+  pub run-begins : Begins u (reading base h)
+  run-begins =
+      let e = run-after t h u r in
+      subst (λ (w : Table). Begins w (reading base h)) (sym (e .0))
+      (subst (λ (g : History). Begins (after t (callsOf h)) (reading base g)) (sym (e .1)) (begins-after t base b (callsOf h)))
+
+  -- lookup answers exactly what the chain's calls and answers say, for every number given as a key
+  pub run-lookup : (k : ℕ) → lookup u k .0 ≡ valueOr u k (valueIn (reading base h .live) (asRead k))
+  unfolding after history reading
+  run-lookup k = lookup-reads u (reading base h) run-begins [] k
+
+  -- reattach's rule holds exactly where they say detached
+  pub run-detached : (k : ℕ) → isDetached u (idx k) (version k) ≡ isIn (reading base h .detached) (asRead k)
+  run-detached k = run-begins .aways k
+
+  -- n is the number of keys that they leave alive
+  pub run-count : u .head .n ≡ length (reading base h .live)
+  run-count = count-lives u (reading base h) run-begins
+
+-- a chain that starts at a fresh table starts from nothing
+pub run-fresh : (vs ls ks xs : List ℕ) → lengthsFit vs ls ks xs ≡ true → (h : History) (u : Table) → Run (freshTable vs ls ks xs) h u → Begins u (reading blank h)
+run-fresh vs ls ks xs f h u r = run-begins (freshTable vs ls ks xs) blank (fresh-begins vs ls ks xs f) h u r
