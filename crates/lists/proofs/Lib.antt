@@ -4,3 +4,4 @@ pub mod Count
 pub mod Changes
 pub mod Once
 pub mod Put
+pub mod Among
