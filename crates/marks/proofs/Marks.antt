@@ -2,17 +2,15 @@
 -- themselves and did not come before. A marked slot's version is even, a key's version is odd. Assumes nothing.
 use mathlib.Core.Path.{_≡_, refl, sym, ap, _∙_}
 use mathlib.Core.Logic.{_≢_, by-cases}
-use mathlib.Core.Bool.{Bool, true, false, cond}
+use mathlib.Core.Bool.{true, false, cond}
 use mathlib.Core.List.{List, [], _∷_}
-use Prim.Native.Nat.{ℕ, _+_, _-_, _%_, _<_}
+use Prim.Native.Nat.{ℕ, _%_, _<_}
 use native.Mathlib.Omega.{arith}
 use native.Mathlib.Decide.{ℕ-discrete}
-use lib.Dec.{eqb}
 use lib.ListN.{length, getD}
-use borrow.Author.Tests.{eq-eqb, ne-eqb}
 use Rattle.lists.specs.Among.{among}
 use Rattle.lists.proofs.Tests.{split, true-false}
-use Rattle.lists.proofs.Among.{among-none, among-same, among-other, among-rest}
+use Rattle.lists.proofs.Among.{among-none, among-same, among-other}
 use Rattle.keys.specs.Keys.{W, idx, pack, version, asRead}
 use Rattle.keys.proofs.Keys.{version-odd, is-read, read-is}
 use Rattle.marks.specs.Marks.{flipped, toggled}

@@ -30,7 +30,7 @@ module _ (u : Table) (a : Sound u) (p : ℕ) (h : p < u .head .n) where
   dropped-sound = sound _ (without-orderly u (orderly u a) _ (stored-occupied u a p h))
 
   -- "a drop is remove of that key"
-  drop-removes : remove u (key u p) .1 ≡ dropped u p
+  pub drop-removes : remove u (key u p) .1 ≡ dropped u p
   drop-removes = ap (λ (o : Out). o .1) (remove-live u a (key u p) (stored-live u a p h))
 
 -- ---- retain

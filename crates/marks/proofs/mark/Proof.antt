@@ -1,7 +1,6 @@
 -- `marks::mark` meets its contract: a slot past the end is none. Assumes nothing.
 use mathlib.Core.Path.{sym}
 use borrow.Author.Needs.{needs}
-use native.Mathlib.Omega.{arith}
 use Rattle.marks.specs.Marks.{toggled}
 use Rattle.marks.proofs.Turns.{toggled-out}
 use Rattle.marks.proofs.mark.Statement.{statement}

@@ -1,4 +1,4 @@
--- `dense_sweep::disjoint` meets its contract: the marks are undone, and the first key without a place is the first that is refused. Assumes nothing.
+-- `dense_disjoint::disjoint` meets its contract: the marks are undone, and the first key without a place is the first that is refused. Assumes nothing.
 use mathlib.Core.Path.{sym, ap, _∙_}
 use borrow.Author.Needs.{needs}
 use native.Mathlib.Omega.{arith}
@@ -7,9 +7,9 @@ use Rattle.lists.proofs.Tests.{refuted, confirmed}
 use Rattle.table.specs.Sweeps.{disjoint}
 use Rattle.table.proofs.Shape.{shape}
 use Rattle.dense.specs.Answers.{judgedOf}
-use Rattle.dense_sweep.proofs.Leaves.{leaves-barred, leaves-short, leaves-given}
-use Rattle.dense_sweep.proofs.disjoint.Statement.{statement}
-use Rattle.dense_sweep.proofs.disjoint.Tie as tie
+use Rattle.dense_disjoint.proofs.Leaves.{leaves-barred, leaves-short, leaves-given}
+use Rattle.dense_disjoint.proofs.disjoint.Statement.{statement}
+use Rattle.dense_disjoint.proofs.disjoint.Tie as tie
 
 returns : tie.Need-returns
 unfolding disjoint

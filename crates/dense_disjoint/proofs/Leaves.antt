@@ -1,5 +1,5 @@
 -- What a disjoint call leaves, once the keys are marked and the marks are undone. Assumes nothing.
-use mathlib.Core.Path.{_≡_, refl, sym, ap, ap₂, _∙_}
+use mathlib.Core.Path.{_≡_, sym, ap, ap₂, _∙_}
 use mathlib.Core.Bool.{true}
 use mathlib.Core.List.{List}
 use Prim.Native.Nat.{ℕ, _≤_, _<_}
@@ -12,7 +12,7 @@ use Rattle.table.proofs.Places.{disjoint-barred, disjoint-short, disjoint-given
 use Rattle.table.proofs.Marking.{with, linked, linked-places, barOf, Marked}
 use Rattle.marks.specs.Marks.{marked}
 use Rattle.marks.proofs.Turns.{marked-twice}
-use Rattle.dense_sweep.specs.Places.{leaves, disjointly}
+use Rattle.dense_disjoint.specs.Places.{leaves, disjointly}
 
 module _ (t : Table) (ks out us ws : List ℕ) (m : ℕ) (a : Marked t ks us m) (w : ws ≡ marked us (take m ks)) where
   pub undone : ws ≡ t .versions

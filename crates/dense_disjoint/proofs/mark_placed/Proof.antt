@@ -1,15 +1,14 @@
--- `dense_sweep::mark_placed` meets its contract: the keys so far are marked, and what is left to test gives the same refusal. Assumes nothing.
+-- `dense_disjoint::mark_placed` meets its contract: the keys so far are marked, and what is left to test gives the same refusal. Assumes nothing.
 use mathlib.Core.Path.{sym, ap, _∙_}
 use Prim.Native.Nat.{_-_}
 use borrow.Author.Needs.{needs}
-use native.Mathlib.Omega.{arith}
 use lib.ListN.{length}
 use Rattle.table.proofs.Marking.{Marking, marking-begins, marking-goes, marking-stops, marking-ends}
 use Rattle.dense.specs.Lent.{table}
 use Rattle.dense.specs.Answers.{judgedOf}
 use Rattle.dense.proofs.Answers.{placed-at}
-use Rattle.dense_sweep.proofs.mark_placed.Statement.{statement}
-use Rattle.dense_sweep.proofs.mark_placed.Tie as tie
+use Rattle.dense_disjoint.proofs.mark_placed.Statement.{statement}
+use Rattle.dense_disjoint.proofs.mark_placed.Tie as tie
 
 abbrev Inv-loop : tie.InvT-loop
 Inv-loop h versions₀ links keys values wanted m₀ versions m = Marking (table versions₀ links keys values h) wanted versions m

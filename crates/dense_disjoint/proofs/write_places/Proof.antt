@@ -1,14 +1,14 @@
--- `dense_sweep::write_places` meets its contract: what is left to write gives the same whole at every turn. Assumes nothing.
-use mathlib.Core.Path.{_≡_, refl, ap, _∙_}
-use Prim.Native.Nat.{ℕ, _≤_, _-_}
+-- `dense_disjoint::write_places` meets its contract: what is left to write gives the same whole at every turn. Assumes nothing.
+use mathlib.Core.Path.{_≡_, refl, ap}
+use Prim.Native.Nat.{_≤_, _-_}
 use borrow.Author.Needs.{needs}
 use native.Mathlib.Omega.{arith}
 use lib.ListN.{length, getD, drop, length-set}
 use Rattle.lists.specs.Put.{put}
 use Rattle.keys.specs.declared.KeyData.{KeyData}
 use Rattle.table.proofs.Marking.{linked, places-turn, places-end}
-use Rattle.dense_sweep.proofs.write_places.Statement.{statement}
-use Rattle.dense_sweep.proofs.write_places.Tie as tie
+use Rattle.dense_disjoint.proofs.write_places.Statement.{statement}
+use Rattle.dense_disjoint.proofs.write_places.Tie as tie
 
 abbrev Inv-loop : tie.InvT-loop
 Inv-loop links wanted out₀ j₀ out j =

@@ -1,4 +1,4 @@
--- What a disjoint call leaves. Assumes nothing.
+-- What a disjoint call leaves (the rules, section "The dense table", Disjoint). Assumes nothing.
 use mathlib.Core.List.{List}
 use Prim.Native.Nat.{ℕ}
 use Rattle.table.specs.Table.{Table}
@@ -12,6 +12,6 @@ Placing = (Said × List ℕ) × List ℕ
 abbrev pub leaves : Said → List ℕ → List ℕ → Placing
 leaves said out versions = ((said, out), versions)
 
--- "marks that are undone before the answer": the versions stay
+-- the answer and the output of the definition; the marks are undone in every case, so the versions are those at entry
 abbrev pub disjointly : Table → List ℕ → List ℕ → Placing
 disjointly t ks out = (disjoint t ks out, t .versions)
