@@ -6,9 +6,9 @@ use mathlib.Core.Bool.{Bool, true, false}
 use Prim.Native.Nat.{ℕ, _+_, _-_, _≤_, _<_}
 use native.Mathlib.Omega.{arith}
 use native.Mathlib.Decide.{ℕ-discrete, decLt}
-use lib.Dec.{leb, eqb}
+use lib.Dec.{leb}
 use lib.ListN.{length}
-use borrow.Author.Tests.{eqb-true, eqb-false, leb-true, leb-false, eq-eqb, ne-eqb, lt-ltb, le-ltb}
+use borrow.Author.Tests.{leb-true, leb-false, eq-eqb, ne-eqb, lt-ltb, le-ltb}
 use Rattle.lists.proofs.Tests.{split, true-false}
 use Rattle.keys.specs.Keys.{isNull, keyOf, version}
 use Rattle.keys.specs.declared.KeyData.{KeyData}

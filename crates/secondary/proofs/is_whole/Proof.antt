@@ -1,10 +1,8 @@
 -- `secondary::is_whole` meets its contract: the slots passed are counted and each is fit. Assumes nothing.
-use mathlib.Core.Path.{_≡_, refl, sym, _∙_}
+use mathlib.Core.Path.{sym}
 use mathlib.Core.Logic.{⊎-elim}
-use mathlib.Core.Bool.{true}
-use Prim.Native.Nat.{ℕ, _-_, _≤_}
+use Prim.Native.Nat.{_-_, _≤_}
 use native.Mathlib.Omega.{arith}
-use Rattle.lists.specs.Count.{count, every}
 use Rattle.lists.proofs.Tests.{refuted, confirmed}
 use Rattle.secondary.specs.Whole.{isWhole}
 use Rattle.secondary.proofs.Shaped.{shaped}

@@ -1,8 +1,5 @@
 -- `secondary_sweep::clear` meets its contract: the shape and the whole map are tested, and then the run is made. Assumes nothing.
-use mathlib.Core.Path.{ap, _∙_}
 use Rattle.lists.proofs.Tests.{refuted, confirmed}
-use Rattle.secondary.specs.Map.{Map}
-use Rattle.secondary.specs.Calls.{said-done}
 use Rattle.secondary.specs.Sweeps.{clear}
 use borrow.Author.Needs.{needs}
 use Rattle.secondary_sweep.proofs.clear.Statement.{statement}

@@ -1,10 +1,7 @@
 -- `secondary_sweep::sieve` meets its contract: a vacant slot and a kept element stay, and another is removed by its key. Assumes nothing.
 use mathlib.Core.Path.{sym, ap, _∙_}
 use native.Mathlib.Omega.{arith}
-use Prim.Native.Nat.{ℕ}
 use Rattle.keys.specs.Keys.{numberOf}
-use Rattle.keys.specs.declared.KeyData.{KeyData}
-use Rattle.rules.specs.Rules.{keepsOf}
 use Rattle.secondary.specs.Calls.{Out, keyAt}
 use Rattle.secondary.proofs.Shaped.{shaped}
 use Rattle.secondary.proofs.Sieves.{sieved-vacant, sieved-kept, sieved-removed}

@@ -1,5 +1,4 @@
 -- `secondary_sweep::sieve_all` meets its contract: the slots that are left to be looked at give the run's result. Assumes nothing.
-use mathlib.Core.Path.{_∙_}
 use Prim.Native.Nat.{_-_}
 use native.Mathlib.Omega.{arith}
 use Rattle.rules.specs.Rules.{keepsOf}
