@@ -1,13 +1,13 @@
 -- How a count changes: with more numbers, and where one number stops or starts to pass. Assumes nothing.
-use mathlib.Core.Path.{_≡_, refl, sym, ap, _∙_}
+use mathlib.Core.Path.{_≡_, sym, ap, _∙_}
 use mathlib.Core.Logic.{_≢_, by-cases}
 use mathlib.Core.Bool.{Bool, true, false}
-use Prim.Native.Nat.{ℕ, zero, suc, _+_, _≤_, _<_, zero-le}
+use Prim.Native.Nat.{ℕ, zero, suc, _+_, _≤_, _<_}
 use native.Mathlib.Nat.{add-zero, add-suc}
 use native.Mathlib.Omega.{arith}
 use native.Mathlib.Decide.{ℕ-discrete}
 use Rattle.lists.specs.Count.{count}
-use Rattle.lists.proofs.Tests.{split, true-false}
+use Rattle.lists.proofs.Tests.{true-false}
 use Rattle.lists.proofs.Count.{always, always-true, minus, minus-true, minus-off, minus-at, count-zero, count-no, count-always, count-same, count-minus, count-inj}
 
 -- ---- bounds

@@ -1,29 +1,42 @@
 -- Clear: as many drain steps as there are elements take them all, and the map stays whole. Assumes nothing.
-use mathlib.Core.Path.{_≡_, refl, ap, _∙_}
+use mathlib.Core.Path.{_≡_, refl, sym, ap, _∙_}
 use mathlib.Core.Logic.{_≢_, by-cases}
-use Prim.Native.Nat.{ℕ, zero, suc, _+_, _≤_, _<_}
+use Prim.Native.Nat.{ℕ, zero, suc, _+_, _-_, _≤_, _<_}
 use native.Mathlib.Omega.{arith}
 use native.Mathlib.Decide.{ℕ-discrete, decLt}
 use Rattle.lists.specs.Count.{count}
 use Rattle.lists.proofs.Changes.{count-none}
-use Rattle.secondary.specs.Map.{Map, ver, isOccupied, emptied}
-use Rattle.secondary.specs.Calls.{drain, ahead}
+use Rattle.secondary.specs.Map.{Map, ver, isOccupied}
+use Rattle.secondary.specs.Calls.{Said, said-element, said-done, refused, drain, ahead}
 use Rattle.secondary.specs.Whole.{Whole}
 use Rattle.secondary.specs.Sweeps.{clearing}
 use Rattle.secondary.proofs.Seek.{ahead-passed}
-use Rattle.secondary.proofs.Slots.{emptied-values, emptied-slots, emptied-count}
+use Rattle.secondary.proofs.Slots.{emptied-off, emptied-values, emptied-slots, emptied-count}
 use Rattle.secondary.proofs.Keeps.{unoccupied, whole-some}
-use Rattle.secondary.proofs.Drains.{meets-ahead, by-drain, drain-meets}
+use Rattle.secondary.proofs.Drains.{meets-ahead, by-drain, drain-meets, drain-stays, taken}
 use Rattle.secondary.proofs.Wholes.{whole-drain}
 
 -- ---- one step
 
 module _ (m : Map) (p : ℕ) where
-  pub drain-slots : drain m p .1 .head .s ≡ m .head .s
-  drain-slots = by-drain (λ (u : Map). u .head .s ≡ m .head .s) m p refl (λ i h. emptied-slots m i)
+  pub drain-frame-slots : drain m p .1 .head .s ≡ m .head .s
+  drain-frame-slots = by-drain (λ (u : Map). u .head .s ≡ m .head .s) m p refl (λ i h. emptied-slots m i)
 
-  pub drain-values : drain m p .1 .values ≡ m .values
-  drain-values = by-drain (λ (u : Map). u .values ≡ m .values) m p refl (λ i h. emptied-values m i)
+  pub drain-frame-values : drain m p .1 .values ≡ m .values
+  drain-frame-values = by-drain (λ (u : Map). u .values ≡ m .values) m p refl (λ i h. emptied-values m i)
+
+-- a step that answers an element writes its slot's version and no other; one that answers none writes nothing
+module _ (m : Map) (p : ℕ) where
+  pub drain-frame-versions : (k x q : ℕ) → drain m p .0 ≡ said-element k x q → (j : ℕ) → j ≢ q - 1 → ver (drain m p .1) j ≡ ver m j
+  drain-frame-versions k x q e j ne =
+      let t = taken m p k x q (drain m p .1) (ap (λ (a : Said). (a, drain m p .1)) e) in
+      ap (λ (u : Map). ver u j) (t .left) ∙ emptied-off m (q - 1) j ne
+
+  pub drain-done-keeps : drain m p .0 ≡ said-done → drain m p .1 ≡ m
+  drain-done-keeps e = drain-stays m p (λ k x q f. let g = sym e ∙ f in let z : _≡_ {A = ℕ} 0 1 = cc in omega arith)
+
+  pub drain-refused-keeps : (r : ℕ) → drain m p .0 ≡ refused r → drain m p .1 ≡ m
+  drain-refused-keeps r e = drain-stays m p (λ k x q f. let g = sym e ∙ f in let z : _≡_ {A = ℕ} 0 1 = cc in omega arith)
 
 module _ (m : Map) (w : Whole m) where
   -- a map with elements has one ahead of place 0
@@ -44,12 +57,12 @@ module _ (m : Map) (w : Whole m) where
 pub clearing-slots : (n : ℕ) (m : Map) → clearing n m .head .s ≡ m .head .s
 unfolding clearing
 clearing-slots zero m = refl
-clearing-slots (suc n) m = clearing-slots n (drain m 0 .1) ∙ drain-slots m 0
+clearing-slots (suc n) m = clearing-slots n (drain m 0 .1) ∙ drain-frame-slots m 0
 
 pub clearing-values : (n : ℕ) (m : Map) → clearing n m .values ≡ m .values
 unfolding clearing
 clearing-values zero m = refl
-clearing-values (suc n) m = clearing-values n (drain m 0 .1) ∙ drain-values m 0
+clearing-values (suc n) m = clearing-values n (drain m 0 .1) ∙ drain-frame-values m 0
 
 pub whole-clearing : (n : ℕ) (m : Map) → Whole m → Whole (clearing n m)
 unfolding clearing

@@ -1,7 +1,7 @@
 -- A look and a drain step, one equation for each outcome; and a drain step from what a look finds. Assumes nothing.
-use mathlib.Core.Path.{_≡_, refl, sym, ap, _∙_}
+use mathlib.Core.Path.{_≡_, sym, ap, _∙_}
 use mathlib.Core.Logic.{_≢_, by-cases}
-use mathlib.Core.Bool.{Bool, true, false, cond}
+use mathlib.Core.Bool.{true, false, cond}
 use Prim.Native.Nat.{ℕ, _+_, _-_, _≤_, _<_}
 use native.Mathlib.Omega.{arith}
 use native.Mathlib.Decide.{ℕ-discrete, decLt}
@@ -41,7 +41,7 @@ pub meets-ahead : (m : Map) (p : ℕ) → hasShape m ≡ true → ahead m p < m 
 unfolding met
 meets-ahead m p sh l = rw (sh, lt-ltb (ahead m p) (m .head .s) l)
 
-none-ahead : (m : Map) (p : ℕ) → hasShape m ≡ true → m .head .s ≤ ahead m p → met m p ≡ nothing
+pub none-ahead : (m : Map) (p : ℕ) → hasShape m ≡ true → m .head .s ≤ ahead m p → met m p ≡ nothing
 unfolding met
 none-ahead m p sh l = rw (sh, le-ltb (ahead m p) (m .head .s) l)
 

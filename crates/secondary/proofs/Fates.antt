@@ -1,5 +1,5 @@
 -- What an insert comes to, case by case. Assumes nothing.
-use mathlib.Core.Path.{_≡_, sym, ap, _∙_}
+use mathlib.Core.Path.{_≡_, ap, _∙_}
 use mathlib.Core.Logic.{_≢_}
 use mathlib.Core.Bool.{true, false}
 use Prim.Native.Nat.{ℕ, _+_, _≤_, _<_}

@@ -1,12 +1,12 @@
 -- A map grown to an index: what stands in its slots, and the loop that makes them. Assumes nothing.
-use mathlib.Core.Path.{_≡_, refl, sym, ap, _∙_}
-use mathlib.Core.List.{List, []}
+use mathlib.Core.Path.{_≡_, sym, ap, _∙_}
+use mathlib.Core.List.{List}
 use Prim.Native.Nat.{ℕ, suc, _+_, _-_, _≤_, _<_}
 use native.Mathlib.Omega.{arith}
 use lib.ListN.{length, getD, set, replicate, length-replicate, getD-replicate}
 use borrow.Author.Tests.{lt-ltb, le-ltb}
 use Rattle.lists.specs.Put.{put}
-use Rattle.lists.proofs.Put.{put-nil, put-cons, length-put, getD-put-in}
+use Rattle.lists.proofs.Put.{put-nil, put-cons, getD-put-in}
 use Rattle.secondary.specs.Map.{Map, ver, grownHead, grown}
 
 -- ---- slots made vacant from slot i to slot e: a turn of the loop, and its end

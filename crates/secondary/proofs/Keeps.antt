@@ -1,8 +1,8 @@
 -- Every call keeps a map whole. Each change is seen slot by slot, and the count with it. Assumes nothing.
-use mathlib.Core.Path.{_≡_, refl, sym, ap, _∙_}
-use mathlib.Core.Logic.{_≢_, _⊎_, inl, inr, by-cases}
-use mathlib.Core.Bool.{Bool, true, false, not}
-use Prim.Native.Nat.{ℕ, suc, _+_, _-_, _%_, _≤_, _<_}
+use mathlib.Core.Path.{_≡_, sym, ap, _∙_}
+use mathlib.Core.Logic.{_≢_, inl, inr, by-cases}
+use mathlib.Core.Bool.{true, false, not}
+use Prim.Native.Nat.{ℕ, _+_, _-_, _%_, _≤_, _<_}
 use native.Mathlib.Omega.{arith}
 use native.Mathlib.Decide.{ℕ-discrete, decLt}
 use lib.Dec.{eqb}
@@ -11,9 +11,9 @@ use borrow.Author.Tests.{eq-eqb, ne-eqb}
 use Rattle.lists.specs.Count.{count}
 use Rattle.lists.proofs.Count.{count-same}
 use Rattle.lists.proofs.Changes.{count-some, count-gap, count-room, count-more, count-falls}
-use Rattle.secondary.specs.Map.{Map, ver, isOccupied, hasShape, grown, withValue, stored, emptied}
+use Rattle.secondary.specs.Map.{Map, ver, isOccupied, grown, withValue, stored, emptied}
 use Rattle.secondary.specs.Whole.{Whole}
-use Rattle.secondary.proofs.Shaped.{Shaped, shaped}
+use Rattle.secondary.proofs.Shaped.{shaped}
 use Rattle.secondary.proofs.Grown.{grown-below, grown-above, grown-new}
 use Rattle.secondary.proofs.Slots.{emptied-at, emptied-off, emptied-slots, emptied-count, emptied-shape, valued-shape, stored-at, stored-off, stored-slots, stored-count, stored-shape, grown-old, grown-count, grown-shape}
 

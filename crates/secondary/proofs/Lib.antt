@@ -11,5 +11,15 @@ pub mod Cases
 pub mod Ways
 pub mod Wholes
 pub mod Elements
+pub mod Lookups
+pub mod Inserted
+pub mod Conditions
 pub mod Sieves
 pub mod Clears
+pub mod Swept
+pub mod Drained
+pub mod Frames
+pub mod Among
+pub mod Disjoints
+pub mod Older
+pub mod Only

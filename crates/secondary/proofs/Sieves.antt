@@ -1,26 +1,26 @@
 -- Retain, slot by slot: an element stays where the rule keeps it and is removed where not, and the map stays whole. Assumes nothing.
 use mathlib.Core.Path.{_≡_, refl, sym, ap, subst, _∙_}
 use mathlib.Core.Logic.{_≢_, by-cases}
-use mathlib.Core.Bool.{Bool, true, false, cond, not, _&&_}
+use mathlib.Core.Bool.{Bool, true, false, cond}
 use Prim.Native.Nat.{ℕ, zero, suc, _+_, _-_, _≤_, _<_}
 use native.Mathlib.Omega.{arith}
 use native.Mathlib.Decide.{ℕ-discrete}
 use lib.Dec.{eqb}
 use lib.ListN.{length}
-use borrow.Author.Tests.{eqb-true, eqb-false, eq-eqb, ne-eqb}
+use borrow.Author.Tests.{eq-eqb, ne-eqb}
 use Rattle.lists.proofs.Tests.{split}
 use Rattle.keys.specs.Keys.{W}
-use Rattle.secondary.specs.Map.{Map, ver, val, isOccupied, hasShape, emptied}
+use Rattle.secondary.specs.Map.{Map, ver, val, emptied}
 use Rattle.secondary.specs.Calls.{Out, remove, keyAt}
 use Rattle.secondary.specs.Whole.{Whole}
 use Rattle.secondary.specs.Sweeps.{sieved, retaining}
-use Rattle.secondary.proofs.Shaped.{Shaped, shaped}
+use Rattle.secondary.proofs.Shaped.{shaped}
 use Rattle.secondary.proofs.Slots.{emptied-at, emptied-off, emptied-values, emptied-slots, emptied-length}
 use Rattle.secondary.proofs.Keeps.{whole-emptied}
 use Rattle.secondary.proofs.Elements.{remove-element}
 
 -- the version that a slot has afterwards
-pub sifted : (ℕ → ℕ → Bool) → ℕ → Map → ℕ
+abbrev pub sifted : (ℕ → ℕ → Bool) → ℕ → Map → ℕ
 sifted keeps j m = cond (keeps j (val m j)) (ver m j) 0
 
 module _ (keeps : ℕ → ℕ → Bool) where
@@ -72,7 +72,6 @@ module _ (keeps : ℕ → ℕ → Bool) where
       (λ ne k. ap (λ (u : Map). length (u .versions)) (sieved-dropped i m ne k) ∙ emptied-length m i)
 
   sieved-at : (i : ℕ) (m : Map) → i < length (m .versions) → ver (sieved keeps i m) i ≡ sifted keeps i m
-  unfolding sifted
   sieved-at i m l =
       by-sieve i m
       (λ z. ap (λ (u : Map). ver u i) (sieved-vacant i m z) ∙ split (keeps i (val m i)) (λ k. rw k) (λ k. rw k z))
@@ -116,7 +115,7 @@ module _ (keeps : ℕ → ℕ → Bool) where
   retaining-before (suc n) i m j l = retaining-before n (i + 1) (sieved keeps i m) j (omega arith) ∙ sieved-off i m j (omega arith)
 
   pub retaining-at : (n i : ℕ) (m : Map) (j : ℕ) → i + n ≤ m .head .s → Whole m → i ≤ j → j < i + n → ver (retaining keeps n i m) j ≡ sifted keeps j m
-  unfolding retaining sifted
+  unfolding retaining
   retaining-at zero i m j h w l b = absurd (omega arith)
   retaining-at (suc n) i m j h w l b =
       by-cases (ℕ-discrete j i)

@@ -1,17 +1,16 @@
 -- What stands in the slots after each change of a map, and that each keeps the shape. Assumes nothing.
-use mathlib.Core.Path.{_≡_, refl, sym, ap, _∙_}
+use mathlib.Core.Path.{_≡_, refl, ap, _∙_}
 use mathlib.Core.Logic.{_≢_, by-cases}
-use mathlib.Core.Bool.{true, false}
-use mathlib.Core.List.{List}
-use Prim.Native.Nat.{ℕ, _+_, _-_, _≤_, _<_}
+use mathlib.Core.Bool.{true}
+use Prim.Native.Nat.{ℕ, _+_, _-_, _<_}
 use native.Mathlib.Omega.{arith}
 use native.Mathlib.Decide.{decLt}
-use lib.ListN.{length, getD, set, replicate, length-set, length-replicate}
+use lib.ListN.{length, replicate, length-set, length-replicate}
 use lib.Seq.{getD-set-same, getD-set-other}
 use Rattle.lists.proofs.Put.{length-put, getD-put-before, getD-put-after}
 use Rattle.secondary.specs.Map.{Map, ver, val, hasShape, grown, withValue, stored, emptied}
-use Rattle.secondary.proofs.Shaped.{Shaped, shaped, shape-true}
-use Rattle.secondary.proofs.Grown.{grown-below, grown-above, grown-new}
+use Rattle.secondary.proofs.Shaped.{shaped, shape-true}
+use Rattle.secondary.proofs.Grown.{grown-below, grown-above}
 
 -- ---- a slot emptied
 

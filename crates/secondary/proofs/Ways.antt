@@ -6,9 +6,9 @@ use mathlib.Core.Bool.{Bool, true, false}
 use Prim.Native.Nat.{ℕ, _+_, _-_, _≤_, _<_}
 use native.Mathlib.Omega.{arith}
 use native.Mathlib.Decide.{ℕ-discrete, decLt}
-use lib.Dec.{leb, eqb}
+use lib.Dec.{leb}
 use lib.ListN.{length}
-use borrow.Author.Tests.{eqb-true, eqb-false, leb-true, leb-false, eq-eqb, ne-eqb, lt-ltb, le-ltb}
+use borrow.Author.Tests.{leb-true, leb-false, eq-eqb, ne-eqb, lt-ltb, le-ltb}
 use Rattle.lists.proofs.Tests.{split, true-false}
 use Rattle.keys.specs.Keys.{isNull, keyOf, version}
 use Rattle.keys.specs.declared.KeyData.{KeyData}
@@ -167,34 +167,15 @@ pub insert-number : (m : Map) (k x : ℕ) (w : Way m (keyOf k)) → insert m k x
 unfolding insert
 insert-number m k x w = insert-way m (keyOf k) x (version-some k) w
 
--- ---- back from a fate: a key that comes to its slot, and one that finds its slot there
+-- ---- back from a fate
 
+-- the fates of a key that comes to a slot, and those of a key that finds its slot there
 abbrev pub settles : Fate → Bool
 settles ignores = false
 settles replaces = true
 settles keeps = true
 settles (stores n) = true
 settles (bars r) = false
-
-placed : (m : Map) (key : KeyData) (f : Fate) → key .version ≢ 0 → settles f ≡ true → fate m key ≡ f → Placed m key
-unfolding fateBy
-placed m key f od s e = go (way m key) (ap settles (sym (fate-way m key od (way m key)) ∙ e) ∙ s)
-  where
-    go : (w : Way m key) → settles (fateBy w) ≡ true → Placed m key
-    go (unshaped sh) q = true-false q refl
-    go (null sh n) q = true-false q refl
-    go (at-zero sh n z) q = true-false q refl
-    go (too-far sh n z l) q = true-false q refl
-    go (same p l _) q = p
-    go (under t o) q = t .place
-    go (over t o) q = t .place
-    go (vacant p l z r) q = p
-    go (crowded p l z r) q = p
-    go (new p l r) q = p
-    go (new-crowded p l r) q = p
-
-pub comes : (m : Map) (key : KeyData) (f : Fate) → key .version ≢ 0 → settles f ≡ true → fate m key ≡ f → (Shaped m) × (key .idx < length (m .versions))
-comes m key f od s e = let p = placed m key f od s e in (shaped m (p .shape), p .high)
 
 abbrev pub compares : Fate → Bool
 compares ignores = false
@@ -203,19 +184,26 @@ compares keeps = true
 compares (stores n) = false
 compares (bars r) = false
 
-pub slot-there : (m : Map) (key : KeyData) (f : Fate) → key .version ≢ 0 → compares f ≡ true → fate m key ≡ f → key .idx < m .head .s
+back : (m : Map) (key : KeyData) (w : Way m key) → (settles (fateBy w) ≡ true → Placed m key) × (compares (fateBy w) ≡ true → key .idx < m .head .s)
 unfolding fateBy
-slot-there m key f od s e = go (way m key) (ap compares (sym (fate-way m key od (way m key)) ∙ e) ∙ s)
-  where
-    go : (w : Way m key) → compares (fateBy w) ≡ true → key .idx < m .head .s
-    go (unshaped sh) q = true-false q refl
-    go (null sh n) q = true-false q refl
-    go (at-zero sh n z) q = true-false q refl
-    go (too-far sh n z l) q = true-false q refl
-    go (same p l _) q = l
-    go (under t o) q = t .there
-    go (over t o) q = t .there
-    go (vacant p l z r) q = l
-    go (crowded p l z r) q = l
-    go (new p l r) q = true-false q refl
-    go (new-crowded p l r) q = true-false q refl
+back m key (unshaped sh) = (λ q. true-false q refl, λ q. true-false q refl)
+back m key (null sh n) = (λ q. true-false q refl, λ q. true-false q refl)
+back m key (at-zero sh n z) = (λ q. true-false q refl, λ q. true-false q refl)
+back m key (too-far sh n z l) = (λ q. true-false q refl, λ q. true-false q refl)
+back m key (same p l _) = (λ q. p, λ q. l)
+back m key (under t o) = (λ q. t .place, λ q. t .there)
+back m key (over t o) = (λ q. t .place, λ q. t .there)
+back m key (vacant p l z r) = (λ q. p, λ q. l)
+back m key (crowded p l z r) = (λ q. p, λ q. l)
+back m key (new p l r) = (λ q. p, λ q. true-false q refl)
+back m key (new-crowded p l r) = (λ q. p, λ q. true-false q refl)
+
+module _ (m : Map) (key : KeyData) (f : Fate) (od : key .version ≢ 0) where
+  by-fate : fate m key ≡ f → fateBy (way m key) ≡ f
+  by-fate e = sym (fate-way m key od (way m key)) ∙ e
+
+  pub comes : settles f ≡ true → fate m key ≡ f → (Shaped m) × (key .idx < length (m .versions))
+  comes s e = let p = back m key (way m key) .0 (ap settles (by-fate e) ∙ s) in (shaped m (p .shape), p .high)
+
+  pub slot-there : compares f ≡ true → fate m key ≡ f → key .idx < m .head .s
+  slot-there s e = back m key (way m key) .1 (ap compares (by-fate e) ∙ s)

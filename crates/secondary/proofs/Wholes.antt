@@ -1,27 +1,26 @@
 -- Fresh, put, insert, remove and a drain step keep a map whole, and none of them says of a whole map that it is damaged. Assumes nothing.
-use mathlib.Core.Path.{_≡_, refl, sym, ap, subst, _∙_}
-use mathlib.Core.Logic.{_≢_, _⊎_, inl, by-cases}
-use mathlib.Core.Bool.{true, false}
+use mathlib.Core.Path.{_≡_, sym, ap, subst, _∙_}
+use mathlib.Core.Logic.{_≢_, inl}
+use mathlib.Core.Bool.{true}
 use mathlib.Core.List.{List}
-use Prim.Native.Nat.{ℕ, _+_, _<_}
+use Prim.Native.Nat.{ℕ, _+_}
 use native.Mathlib.Omega.{arith}
-use native.Mathlib.Decide.{ℕ-discrete}
-use lib.ListN.{length, set, length-set}
+use lib.ListN.{length-set}
 use lib.Seq.{getD-set-same}
-use Rattle.lists.specs.Count.{count}
 use Rattle.lists.proofs.Count.{count-zero, count-no}
+use Rattle.lists.proofs.Tests.{split}
 use Rattle.keys.specs.Keys.{idx, version, keyOf}
 use Rattle.keys.proofs.Keys.{version-odd}
 use Rattle.secondary.specs.declared.MapHeader.{MapHeader}
-use Rattle.secondary.specs.Map.{Map, ver, isOccupied, lengthsFit, hasShape, absent, grown, stored}
-use Rattle.secondary.specs.Calls.{Said, said-value, said-element, refused, Out, begins, cannot, freshHead, freshMap, fresh, put, insert, remove, meets, met, drain, ahead}
+use Rattle.secondary.specs.Map.{Map, ver, isOccupied, lengthsFit, absent, grown, stored}
+use Rattle.secondary.specs.Calls.{refused, Out, begins, cannot, freshHead, freshMap, fresh, lookup, put, insert, remove, peek, drain}
 use Rattle.secondary.specs.Whole.{Whole}
-use Rattle.secondary.proofs.Shaped.{Fits, fits, Shaped, shaped, shape-true}
+use Rattle.secondary.proofs.Shaped.{fits, shape-true}
 use Rattle.secondary.proofs.Slots.{grown-count}
 use Rattle.secondary.proofs.Grown.{grown-above, grown-new}
 use Rattle.secondary.proofs.Keeps.{unoccupied, whole-few, whole-some, whole-room, whole-emptied, whole-filled, whole-over, whole-valued, whole-grown}
-use Rattle.secondary.proofs.Cases.{There, there, by-slot, put-unshaped, put-absent, put-there, remove-unshaped, remove-absent, remove-there}
-use Rattle.secondary.proofs.Drains.{meeting, by-met, by-drain, drain-stops, drain-nothing, drain-meets}
+use Rattle.secondary.proofs.Cases.{there, by-slot, lookup-unshaped, lookup-absent, lookup-there, put-unshaped, put-absent, put-there, remove-unshaped, remove-absent, remove-there}
+use Rattle.secondary.proofs.Drains.{meeting, by-met, by-drain, peek-stops, peek-nothing, peek-meets, drain-stops, drain-nothing, drain-meets}
 use Rattle.secondary.proofs.Ways.{Way, unshaped, null, at-zero, too-far, same, under, over, vacant, crowded, new, new-crowded, way, outBy, insert-number, version-some}
 
 -- a fact of a call's outcome, from the equation of the outcome
@@ -33,9 +32,9 @@ refused-inj e = cc
 
 -- ---- fresh
 
-pub whole-fresh : (vs xs : List ℕ) → lengthsFit vs xs ≡ true → Whole (freshMap vs xs)
+pub whole-fresh-map : (vs xs : List ℕ) → lengthsFit vs xs ≡ true → Whole (freshMap vs xs)
 unfolding freshMap
-whole-fresh vs xs e =
+whole-fresh-map vs xs e =
     let f = fits vs xs e in
     let z : ver (freshMap vs xs) 0 ≡ 0 = getD-set-same vs 0 0 0 (f .some) in
     record {
@@ -44,6 +43,46 @@ whole-fresh vs xs e =
       each = λ i l. let o : i ≡ 0 = omega arith in inl (ap (ver (freshMap vs xs)) o ∙ z);
       counted = count-no (isOccupied (freshMap vs xs)) 0 (unoccupied (freshMap vs xs) 0 z) ∙ count-zero (isOccupied (freshMap vs xs));
     }
+
+pub whole-fresh : (vs xs : List ℕ) (h : MapHeader) → fresh vs xs .0 ≡ begins h → Whole (record { versions = fresh vs xs .1; values = xs; head = h })
+unfolding fresh freshMap
+whole-fresh vs xs h e =
+    split (lengthsFit vs xs)
+    (λ f. let q : begins freshHead ≡ begins h = rw f at e in let g : freshHead ≡ h = cc in rw (f, ← g) (whole-fresh-map vs xs f))
+    (λ f. let q : cannot 1 ≡ begins h = rw f at e in let z : _≡_ {A = ℕ} 0 1 = cc in absurd (omega arith))
+
+pub fresh-refused-keeps : (vs xs : List ℕ) (r : ℕ) → fresh vs xs .0 ≡ cannot r → fresh vs xs .1 ≡ vs
+unfolding fresh
+fresh-refused-keeps vs xs r e =
+    split (lengthsFit vs xs)
+    (λ f. let q : begins freshHead ≡ cannot r = rw f at e in let z : _≡_ {A = ℕ} 0 1 = cc in absurd (omega arith))
+    (λ f. rw f)
+
+-- ---- lookup, put and a look say of no map that it is damaged
+
+module _ (m : Map) where
+  pub lookup-undamaged : (k : ℕ) → lookup m k .0 ≢ refused 5
+  unfolding absent
+  lookup-undamaged k =
+      by-slot m k
+      (λ sh. to (λ o. o .0 ≢ refused 5) (lookup-unshaped m k sh) (λ q. omega (arith, refused-inj q)))
+      (λ sh e. to (λ o. o .0 ≢ refused 5) (lookup-absent m k sh e) (λ q. omega (arith, refused-inj q)))
+      (λ sh e. to (λ o. o .0 ≢ refused 5) (lookup-there m k sh e) (λ q. let z : _≡_ {A = ℕ} 0 1 = cc in omega arith))
+
+  pub put-undamaged : (k x : ℕ) → put m k x .0 ≢ refused 5
+  unfolding absent
+  put-undamaged k x =
+      by-slot m k
+      (λ sh. to (λ o. o .0 ≢ refused 5) (put-unshaped m k sh x) (λ q. omega (arith, refused-inj q)))
+      (λ sh e. to (λ o. o .0 ≢ refused 5) (put-absent m k sh e x) (λ q. omega (arith, refused-inj q)))
+      (λ sh e. to (λ o. o .0 ≢ refused 5) (put-there m k sh e x) (λ q. let z : _≡_ {A = ℕ} 0 1 = cc in omega arith))
+
+  pub peek-undamaged : (p : ℕ) → peek m p ≢ refused 5
+  peek-undamaged p =
+      by-met m p
+      (λ h q. omega (arith, refused-inj (sym (peek-stops m p h) ∙ q)))
+      (λ h q. let f = sym (peek-nothing m p h) ∙ q in let z : _≡_ {A = ℕ} 0 1 = cc in omega arith)
+      (λ i h q. let f = sym (peek-meets m p i h) ∙ q in let z : _≡_ {A = ℕ} 0 1 = cc in omega arith)
 
 module _ (m : Map) (w : Whole m) where
   -- ---- put

@@ -84,11 +84,7 @@ loweredHead h = countedHead h (h .count - 1)
 unfoldable pub grown : Map → ℕ → Map
 grown m i =
     cond (ltb i (m .head .s)) m
-    (record {
-      versions = put (m .versions) (m .head .s) (replicate (i + 1 - m .head .s) 0);
-      values = m .values;
-      head = grownHead (m .head) i;
-    })
+    (record { versions = put (m .versions) (m .head .s) (replicate (i + 1 - m .head .s) 0); values = m .values; head = grownHead (m .head) i })
 
 -- slot i has another value
 unfoldable pub withValue : Map → ℕ → ℕ → Map

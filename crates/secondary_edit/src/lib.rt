@@ -2,7 +2,7 @@
 ghost use mathlib.Core.Path.{_≡_};
 ghost use Prim.Native.Nat.{_≤_, _<_};
 ghost use lib.ListN.{length};
-ghost use Rattle.keys.specs.Keys.{far, keyOf};
+ghost use Rattle.keys.specs.Keys.{far};
 ghost use Rattle.secondary.specs.Map.{older, grown, stored, emptied};
 ghost use Rattle.secondary.specs.Calls.{fresh, put, settled, fate, insert, leaving, remove, drain};
 ghost use Rattle.secondary.specs.Answers.{before, after, foundOf, gotOf};
@@ -133,10 +133,10 @@ fn grow(h: MapHeader, versions: &mut [u32], values: &[u64], index: u32) -> MapHe
         return h;
     }
     let end = index as usize;
-    let mut i = h.s as usize;
-    while i <= end {
-        versions[i] = 0;
-        i += 1;
+    let mut at = h.s as usize;
+    while at <= end {
+        versions[at] = 0;
+        at += 1;
     }
     MapHeader {
         s: index + 1,

@@ -2,3 +2,4 @@ pub mod Turns
 pub mod Marks
 pub mod Runs
 pub mod Gives
+pub mod Only

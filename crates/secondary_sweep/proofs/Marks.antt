@@ -1,39 +1,20 @@
 -- Disjoint's marks: a marked slot is one that an earlier key has, so a key that is not there in the marked map is not there or repeated.
 -- Assumes nothing.
 use mathlib.Core.Path.{_≡_, refl, sym, ap, _∙_}
-use mathlib.Core.Logic.{_≢_, _⊎_, inl, inr, by-cases, ⊎-elim}
+use mathlib.Core.Logic.{_≢_, by-cases, ⊎-elim}
 use mathlib.Core.Bool.{true, false}
 use mathlib.Core.List.{List, [], _∷_}
 use Prim.Native.Nat.{ℕ, _<_}
 use native.Mathlib.Omega.{arith}
 use native.Mathlib.Decide.{ℕ-discrete}
-use lib.Dec.{eqb}
 use lib.ListN.{length, getD, set}
 use lib.Seq.{getD-set-same, getD-set-other}
-use borrow.Author.Tests.{eqb-true, eq-eqb}
-use Rattle.lists.proofs.Tests.{split, true-false, false-if}
+use Rattle.lists.proofs.Tests.{true-false, false-if}
 use Rattle.keys.specs.Keys.{idx, version, asRead, pack}
 use Rattle.keys.proofs.Keys.{idx-read, is-read, version-odd}
 use Rattle.secondary.specs.Map.{Map, ver}
 use Rattle.secondary.specs.Sweeps.{among}
-
--- ---- membership
-
-among-here : (k j : ℕ) (l : List ℕ) → k ≡ j → among k (j ∷ l) ≡ true
-unfolding among
-among-here k j l e = rw (eq-eqb k j e)
-
-among-there : (k j : ℕ) (l : List ℕ) → among k l ≡ true → among k (j ∷ l) ≡ true
-unfolding among
-among-there k j l e = split (eqb k j) (λ h. rw h) (λ h. rw h e)
-
-among-cases : (k j : ℕ) (l : List ℕ) → among k (j ∷ l) ≡ true → (k ≡ j) ⊎ (among k l ≡ true)
-unfolding among
-among-cases k j l e = split (eqb k j) (λ h. inl (eqb-true k j h)) (λ h. inr (rw h at e))
-
-among-none : (k : ℕ) → among k [] ≡ false
-unfolding among
-among-none k = refl
+use Rattle.secondary.proofs.Among.{among-none, among-here, among-there, among-cases}
 
 -- ---- one slot of the marked map: it stands as it was, and no earlier key has its index; or it is marked, and an earlier key has it
 

@@ -18,7 +18,7 @@ use Rattle.secondary.specs.Sweeps.{sieved, retaining, clearing}
 use Rattle.secondary.proofs.Shaped.{shaped}
 use Rattle.secondary.proofs.Slots.{emptied-at, emptied-off, emptied-count, emptied-length}
 use Rattle.secondary.proofs.Seek.{ahead-passed}
-use Rattle.secondary.proofs.Drains.{Taken, taken, drain-stays, drain-skips}
+use Rattle.secondary.proofs.Drains.{taken, drain-stays, drain-skips}
 use Rattle.secondary.proofs.Sieves.{whole-sieved, sieved-slots, sieved-length}
 
 -- ---- retain: m₀ is the map at the start, m the map with the slots below i looked at

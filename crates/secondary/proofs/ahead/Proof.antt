@@ -19,13 +19,15 @@ loop-holds : tie.Need-loop-holds Inv-loop μ-loop
 loop-holds c = refl
 
 returns : tie.Need-returns Inv-loop μ-loop
-returns c = sym (seek-occupied _ _ _ (c .before .before .before .loop-test .taken) (c .if2 .taken)) ∙ c .before .before .before .before .loop .inv ∙ ahead-from _ _ _ (⊎-elim (λ w. omega arith) (λ w. omega arith) (c .before .before .before .before .before .if1 .came))
+returns c = sym (seek-occupied _ _ _ (c .before .before .before .loop-test .taken) (c .if2 .taken)) ∙ c .before .before .before .before .loop .inv
+    ∙ ahead-from _ _ _ (⊎-elim (λ w. omega arith) (λ w. omega arith) (c .before .before .before .before .before .if1 .came))
 
 loop-again : tie.Need-loop-again Inv-loop μ-loop
 loop-again c = sym (seek-vacant _ _ _ (c .before .before .before .loop-test .taken) (c .if2 .left)) ∙ c .before .before .before .before .loop .inv
 
 returns-2 : tie.Need-returns-2 Inv-loop μ-loop
-returns-2 c = sym (seek-end _ _ _ (c .loop-test .left)) ∙ c .before .loop .inv ∙ ahead-from _ _ _ (⊎-elim (λ w. omega arith) (λ w. omega arith) (c .before .before .if1 .came))
+returns-2 c = sym (seek-end _ _ _ (c .loop-test .left)) ∙ c .before .loop .inv ∙ ahead-from _ _ _ (⊎-elim (λ w. omega arith) (λ w. omega arith)
+    (c .before .before .if1 .came))
 
 pub ahead-spec : {M : Type 1} → statement M
 ahead-spec =

@@ -1,10 +1,8 @@
 -- `secondary::is_whole` meets its contract: the slots passed are counted and each is fit. Assumes nothing.
-use mathlib.Core.Path.{_≡_, refl, sym, _∙_}
+use mathlib.Core.Path.{sym}
 use mathlib.Core.Logic.{⊎-elim}
-use mathlib.Core.Bool.{true}
-use Prim.Native.Nat.{ℕ, _-_, _≤_}
+use Prim.Native.Nat.{_-_, _≤_}
 use native.Mathlib.Omega.{arith}
-use Rattle.lists.specs.Count.{count, every}
 use Rattle.lists.proofs.Tests.{refuted, confirmed}
 use Rattle.secondary.specs.Whole.{isWhole}
 use Rattle.secondary.proofs.Shaped.{shaped}
@@ -36,19 +34,36 @@ mul-v : tie.Need-mul-v Inv-loop μ-loop
 mul-v c = omega (arith, shaped _ (confirmed (c .before .before .before .before .before .before .shape .ensures) (c .before .before .before .before .before .if1 .left)))
 
 shared-slice-read-v : tie.Need-shared-slice-read-v Inv-loop μ-loop
-shared-slice-read-v c = omega (arith, shaped _ (confirmed (c .before .before .before .before .before .before .before .shape .ensures) (c .before .before .before .before .before .before .if1 .left)))
+shared-slice-read-v c = omega (
+  arith,
+  shaped _ (confirmed (c .before .before .before .before .before .before .before .shape .ensures)
+      (c .before .before .before .before .before .before .if1 .left)),
+)
 
 returns-3 : tie.Need-returns-3 Inv-loop μ-loop
 returns-3 c = sym (unfit _ _ (c .before .before .before .before .loop-test .taken) (c .before .before .if3 .taken) (refuted (c .before .is-odd .ensures) (c .if4 .taken)))
 
 add-n : tie.Need-add-n Inv-loop μ-loop
-add-n c = omega (arith, scanned-few _ _ _ (c .before .before .before .before .before .loop .inv .1), shaped _ (confirmed (c .before .before .before .before .before .before .before .before .before .before .shape .ensures) (c .before .before .before .before .before .before .before .before .before .if1 .left)))
+add-n c = omega (
+  arith,
+  scanned-few _ _ _ (c .before .before .before .before .before .loop .inv .1),
+  shaped _ (confirmed
+      (c .before .before .before .before .before .before .before .before .before .before .shape .ensures)
+      (c .before .before .before .before .before .before .before .before .before .if1 .left)),
+)
 
 loop-again : tie.Need-loop-again Inv-loop μ-loop
-loop-again c = (omega arith, ⊎-elim (λ w. rw (w .3) (scanned-odd _ _ _ (c .before .before .before .loop .inv .1) (w .0 .taken) (confirmed (w .1 .ensures) (w .2 .left)))) (λ w. rw (w .1) (scanned-vacant _ _ _ (c .before .before .before .loop .inv .1) (w .0 .left))) (c .if3 .came))
+loop-again c = (
+  omega arith,
+  ⊎-elim (λ w. rw (w .3) (scanned-odd _ _ _ (c .before .before .before .loop .inv .1) (w .0 .taken)
+      (confirmed (w .1 .ensures) (w .2 .left)))) (λ w. rw (w .1) (scanned-vacant _ _ _
+      (c .before .before .before .loop .inv .1) (w .0 .left))) (c .if3 .came),
+)
 
 returns-4 : tie.Need-returns-4 Inv-loop μ-loop
-returns-4 c = scanned-all _ _ _ (c .before .before .loop .inv .1) (omega arith) (confirmed (c .before .before .before .before .before .before .before .shape .ensures) (c .before .before .before .before .before .before .if1 .left)) (c .before .before .before .before .if2 .left)
+returns-4 c = scanned-all _ _ _ (c .before .before .loop .inv .1) (omega arith) (confirmed
+    (c .before .before .before .before .before .before .before .shape .ensures) (c .before .before .before .before .before .before .if1 .left))
+    (c .before .before .before .before .if2 .left)
 
 pub is-whole-spec : {M : Type 1} → statement M
 is-whole-spec =

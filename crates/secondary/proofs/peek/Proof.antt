@@ -17,17 +17,35 @@ ahead-requires c κs = omega (arith, shaped _ (confirmed (c .before .shape .ensu
 
 returns-2 : tie.Need-returns-2
 unfolding met peek
-returns-2 c = simp (confirmed (c .before .before .before .before .shape .ensures) (c .before .before .before .if1 .left), ← (c .before .before .ahead .ensures), le-ltb _ _ (c .if2 .taken))
+returns-2 c = simp (
+  confirmed (c .before .before .before .before .shape .ensures) (c .before .before .before .if1 .left),
+  ←
+      (c .before .before .ahead .ensures),
+  le-ltb _ _ (c .if2 .taken),
+)
 
 shared-slice-read-new : tie.Need-shared-slice-read-new
 shared-slice-read-new c = omega (arith, shaped _ (confirmed (c .before .before .before .before .before .shape .ensures) (c .before .before .before .before .if1 .left)))
 
 shared-slice-read-t17 : tie.Need-shared-slice-read-t17
-shared-slice-read-t17 c = omega (arith, shaped _ (confirmed (c .before .before .before .before .before .before .before .before .shape .ensures) (c .before .before .before .before .before .before .before .if1 .left)))
+shared-slice-read-t17 c = omega (
+  arith,
+  shaped _ (confirmed (c .before .before .before .before .before .before .before .before .shape .ensures)
+      (c .before .before .before .before .before .before .before .if1 .left)),
+)
 
 returns-3 : tie.Need-returns-3
 unfolding met peek keyAt
-returns-3 c = simp (confirmed (c .before .before .before .before .before .before .before .before .shape .ensures) (c .before .before .before .before .before .before .before .if1 .left), ← (c .before .before .before .before .before .before .ahead .ensures), lt-ltb _ _ (c .before .before .before .before .if2 .left), c .before .as-ffi .ensures, c .before .before .new .ensures)
+returns-3 c = simp (
+  confirmed (c .before .before .before .before .before .before .before .before .shape .ensures)
+      (c .before .before .before .before .before .before .before .if1 .left),
+  ←
+      (c .before .before .before .before .before .before .ahead .ensures),
+  lt-ltb _ _
+      (c .before .before .before .before .if2 .left),
+  c .before .as-ffi .ensures,
+  c .before .before .new .ensures,
+)
 
 pub peek-spec : {M : Type 1} → statement M
 peek-spec =

@@ -16,11 +16,24 @@ is-there-requires c κs = omega (arith, shaped _ (confirmed (c .before .before .
 
 returns-2 : tie.Need-returns-2
 unfolding slot slotIn
-returns-2 c = simp (confirmed (c .before .before .before .before .before .shape .ensures) (c .before .before .before .before .if1 .left), rw (c .before .before .before .from-ffi .ensures) at (refuted (c .before .before .is-there .ensures) (c .before .if2 .taken)), c .absent .ensures, c .before .before .before .from-ffi .ensures)
+returns-2 c = simp (
+  confirmed (c .before .before .before .before .before .shape .ensures) (c .before .before .before .before .if1 .left),
+  rw
+      (c .before .before .before .from-ffi .ensures) at (refuted (c .before .before .is-there .ensures)
+      (c .before .if2 .taken)),
+  c .absent .ensures,
+  c .before .before .before .from-ffi .ensures,
+)
 
 returns-3 : tie.Need-returns-3
 unfolding slot slotIn
-returns-3 c = simp (confirmed (c .before .before .before .before .before .shape .ensures) (c .before .before .before .before .if1 .left), rw (c .before .before .before .from-ffi .ensures) at (confirmed (c .before .before .is-there .ensures) (c .before .if2 .left)), c .before .before .before .from-ffi .ensures)
+returns-3 c = simp (
+  confirmed (c .before .before .before .before .before .shape .ensures) (c .before .before .before .before .if1 .left),
+  rw
+      (c .before .before .before .from-ffi .ensures) at (confirmed (c .before .before .is-there .ensures)
+      (c .before .if2 .left)),
+  c .before .before .before .from-ffi .ensures,
+)
 
 pub slot-spec : {M : Type 1} → statement M
 slot-spec =

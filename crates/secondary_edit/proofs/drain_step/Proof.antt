@@ -8,16 +8,23 @@ use Rattle.secondary_edit.proofs.drain_step.Statement.{statement}
 use Rattle.secondary_edit.proofs.drain_step.Tie as tie
 
 returns : tie.Need-returns
-returns c = sym (drain-empty _ _ _ _ _ (seen _ _ _ _ _ (sym (ap stepOf (c .before .before .before .key .given .1)) ∙ c .before .before .before .before .before .peek .ensures)) (c .if1 .taken))
+returns c = sym (drain-empty _ _ _ _ _ (seen _ _ _ _ _ (sym (ap stepOf (c .before .before .before .key .given .1))
+    ∙ c .before .before .before .before .before .peek .ensures)) (c .if1 .taken))
 
 sub-i : tie.Need-sub-i
 sub-i c = (seen _ _ _ _ _ (sym (ap stepOf (c .before .before .before .key .given .1)) ∙ c .before .before .before .before .before .peek .ensures)) .one
 
 vacate-requires : tie.Need-vacate-requires
-vacate-requires c κs = omega (arith, seen-high _ _ _ _ _ (seen _ _ _ _ _ (sym (ap stepOf (c .before .before .before .before .key .given .1)) ∙ c .before .before .before .before .before .before .peek .ensures)))
+vacate-requires c κs = omega (
+  arith,
+  seen-high _ _ _ _ _ (seen _ _ _ _ _ (sym (ap stepOf (c .before .before .before .before .key .given .1))
+      ∙ c .before .before .before .before .before .before .peek .ensures)),
+)
 
 returns-2 : tie.Need-returns-2
-returns-2 c = rw (c .before .before .vacate .ensures) (sym (drain-takes _ _ _ _ _ (seen _ _ _ _ _ (sym (ap stepOf (c .before .before .before .before .before .before .before .key .given .1)) ∙ c .before .before .before .before .before .before .before .before .before .peek .ensures)) (c .before .before .before .before .if1 .left)))
+returns-2 c = rw (c .before .before .vacate .ensures) (sym (drain-takes _ _ _ _ _ (seen _ _ _ _ _ (sym (ap stepOf
+    (c .before .before .before .before .before .before .before .key .given .1))
+    ∙ c .before .before .before .before .before .before .before .before .before .peek .ensures)) (c .before .before .before .before .if1 .left)))
 
 returns-3 : tie.Need-returns-3
 returns-3 c = sym (drain-done _ _ (sym (ap stepOf (c .enum-told .given .1)) ∙ c .before .before .peek .ensures))

@@ -10,10 +10,10 @@ use Rattle.secondary_edit.proofs.grow.Statement.{statement}
 use Rattle.secondary_edit.proofs.grow.Tie as tie
 
 abbrev Inv-loop : tie.InvT-loop
-Inv-loop h versions₀ values index end i₀ versions i = (length versions ≡ length versions₀) × (put versions i (replicate (end + 1 - i) 0) ≡ put versions₀ i₀ (replicate (end + 1 - i₀) 0))
+Inv-loop h versions₀ values index end at₀ versions at = (length versions ≡ length versions₀) × (put versions at (replicate (end + 1 - at) 0) ≡ put versions₀ at₀ (replicate (end + 1 - at₀) 0))
 
 abbrev μ-loop : tie.MeasureT-loop
-μ-loop h versions₀ values index end i₀ versions i = end + 1 - i
+μ-loop h versions₀ values index end at₀ versions at = end + 1 - at
 
 returns : tie.Need-returns Inv-loop μ-loop
 returns c = sym (grown-below _ _ (c .if1 .taken))

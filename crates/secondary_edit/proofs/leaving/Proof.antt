@@ -1,6 +1,4 @@
 -- `secondary_edit::leaving` meets its contract: the key's slot is judged, then the count. Assumes nothing.
-use native.Mathlib.Omega.{arith}
-use Rattle.lists.proofs.Tests.{tests}
 use borrow.Author.Tests.{eq-eqb, ne-eqb}
 use Rattle.secondary.specs.Calls.{leavingFrom, leaving}
 use Rattle.secondary.proofs.Stands.{found-at}

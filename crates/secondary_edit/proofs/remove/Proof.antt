@@ -17,7 +17,11 @@ vacate-requires c κs = omega (arith, leaves _ _ _ (found-at (c .before .before 
 
 returns : tie.Need-returns
 unfolding remove
-returns c = simp (found-at (c .before .before .before .before .before .before .before .before .leaving .ensures) (c .before .before .before .before .before .before .i .given .1), ← (c .before .before .vacate .ensures))
+returns c = simp (
+  found-at (c .before .before .before .before .before .before .before .before .leaving .ensures)
+      (c .before .before .before .before .before .before .i .given .1),
+  ← (c .before .before .vacate .ensures),
+)
 
 returns-2 : tie.Need-returns-2
 unfolding remove

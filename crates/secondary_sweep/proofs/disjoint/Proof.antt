@@ -17,16 +17,31 @@ unmark-requires : tie.Need-unmark-requires
 unmark-requires c κs = let h = (marking-told _ _ _ _ _ (c .before .before .before .before .before .mark .ensures) (c .before .enum-told .given .1)) in (h .few, h .within)
 
 returns-2 : tie.Need-returns-2
-returns-2 c = gives-short _ _ _ (confirmed (c .before .before .before .before .before .before .before .before .before .before .before .before .shape .ensures) (c .before .before .before .before .before .before .before .before .before .before .before .if1 .left)) _ _ (marking-told _ _ _ _ _ (c .before .before .before .before .before .before .before .before .before .mark .ensures) (c .before .before .before .before .before .enum-told .given .1)) (c .before .before .before .unmark .ensures) (c .if2 .taken)
+returns-2 c = gives-short _ _ _ (confirmed
+    (c .before .before .before .before .before .before .before .before .before .before .before .before .shape .ensures)
+    (c .before .before .before .before .before .before .before .before .before .before .before .if1 .left)) _ _ (marking-told _ _ _ _ _
+    (c .before .before .before .before .before .before .before .before .before .mark .ensures)
+    (c .before .before .before .before .before .enum-told .given .1)) (c .before .before .before .unmark .ensures) (c .if2 .taken)
 
 unmark-requires-2 : tie.Need-unmark-requires-2
-unmark-requires-2 c κs = let h = (marking-told _ _ _ _ _ (c .before .before .before .before .before .before .mark .ensures) (c .before .before .n .given .1)) in (h .few, h .within)
+unmark-requires-2 c κs = let h = (marking-told _ _ _ _ _ (c .before .before .before .before .before .before .mark .ensures)
+    (c .before .before .n .given .1)) in (h .few, h .within)
 
 returns-3 : tie.Need-returns-3
-returns-3 c = gives-done _ _ _ (confirmed (c .before .before .before .before .before .before .before .before .before .before .before .before .before .before .before .before .shape .ensures) (c .before .before .before .before .before .before .before .before .before .before .before .before .before .before .before .if1 .left)) _ _ (marking-told _ _ _ _ _ (c .before .before .before .before .before .before .before .before .before .before .before .before .before .mark .ensures) (c .before .before .before .before .before .before .before .before .before .enum-told .given .1)) (c .before .before .before .before .before .before .before .unmark .ensures) _ (c .before .before .before .before .if2 .left) (c .before .before .fill .ensures)
+returns-3 c = gives-done _ _ _ (confirmed
+    (c .before .before .before .before .before .before .before .before .before .before .before .before .before .before .before .before .shape .ensures)
+    (c .before .before .before .before .before .before .before .before .before .before .before .before .before .before .before .if1 .left)) _ _
+    (marking-told _ _ _ _ _ (c .before .before .before .before .before .before .before .before .before .before .before .before .before .mark .ensures)
+    (c .before .before .before .before .before .before .before .before .before .enum-told .given .1))
+    (c .before .before .before .before .before .before .before .unmark .ensures) _ (c .before .before .before .before .if2 .left)
+    (c .before .before .fill .ensures)
 
 returns-4 : tie.Need-returns-4
-returns-4 c = gives-stopped _ _ _ (confirmed (c .before .before .before .before .before .before .before .before .before .before .before .before .shape .ensures) (c .before .before .before .before .before .before .before .before .before .before .before .if1 .left)) _ _ _ _ (marking-told _ _ _ _ _ (c .before .before .before .before .before .before .before .before .before .mark .ensures) (c .before .before .before .before .before .n .given .1)) (c .before .before .unmark2 .ensures)
+returns-4 c = gives-stopped _ _ _ (confirmed
+    (c .before .before .before .before .before .before .before .before .before .before .before .before .shape .ensures)
+    (c .before .before .before .before .before .before .before .before .before .before .before .if1 .left)) _ _ _ _ (marking-told _ _ _ _ _
+    (c .before .before .before .before .before .before .before .before .before .mark .ensures)
+    (c .before .before .before .before .before .n .given .1)) (c .before .before .unmark2 .ensures)
 
 pub disjoint-spec : {M : Type 1} → statement M
 disjoint-spec =

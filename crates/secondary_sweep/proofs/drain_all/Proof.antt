@@ -7,7 +7,8 @@ use Rattle.secondary_sweep.proofs.drain_all.Statement.{statement}
 use Rattle.secondary_sweep.proofs.drain_all.Tie as tie
 
 abbrev Inv-loop : tie.InvT-loop
-Inv-loop versions₀ values g₀ place₀ versions g place = Draining (record { versions = versions₀; values = values; head = g₀ }) (record { versions = versions; values = values; head = g }) place
+Inv-loop versions₀ values g₀ place₀ versions g place = Draining (record { versions = versions₀; values = values; head = g₀ })
+    (record { versions = versions; values = values; head = g }) place
 
 abbrev μ-loop : tie.MeasureT-loop
 μ-loop versions₀ values g₀ place₀ versions g place = g .count
@@ -16,22 +17,28 @@ loop-holds : tie.Need-loop-holds Inv-loop μ-loop
 loop-holds c = draining-start _
 
 loop-less : tie.Need-loop-less Inv-loop μ-loop
-loop-less c = draining-less _ _ _ _ (c .before .before .before .before .before .before .before .before .loop .inv) _ _ _ (step-element _ _ _ _ (c .before .before .before .before .before .before .drain-step .ensures) _ _ _ (c .before .before .a .given .1))
+loop-less c = draining-less _ _ _ _ (c .before .before .before .before .before .before .before .before .loop .inv) _ _ _ (step-element _ _ _ _
+    (c .before .before .before .before .before .before .drain-step .ensures) _ _ _ (c .before .before .a .given .1))
 
 loop-again : tie.Need-loop-again Inv-loop μ-loop
-loop-again c = draining-turn _ _ _ _ (c .before .before .before .before .before .before .before .before .loop .inv) _ _ _ (step-element _ _ _ _ (c .before .before .before .before .before .before .drain-step .ensures) _ _ _ (c .before .before .a .given .1))
+loop-again c = draining-turn _ _ _ _ (c .before .before .before .before .before .before .before .before .loop .inv) _ _ _ (step-element _ _ _ _
+    (c .before .before .before .before .before .before .drain-step .ensures) _ _ _ (c .before .before .a .given .1))
 
 same-length : tie.Need-same-length Inv-loop μ-loop
 same-length c = c .before .before .before .before .before .drain-step .kept .1 .0 ∙ c .before .before .before .before .before .before .before .loop .inv .same
 
 returns : tie.Need-returns Inv-loop μ-loop
-returns c = draining-ends _ _ _ _ (c .before .before .before .before .before .before .before .loop .inv) (step-done _ _ _ _ (c .before .before .before .before .before .drain-step .ensures) (c .before .enum-told .given .1)) (ap (λ (o : Out). o .1) (c .before .before .before .before .before .drain-step .ensures))
+returns c = draining-ends _ _ _ _ (c .before .before .before .before .before .before .before .loop .inv) (step-done _ _ _ _
+    (c .before .before .before .before .before .drain-step .ensures) (c .before .enum-told .given .1)) (ap (λ (o : Out). o .1)
+    (c .before .before .before .before .before .drain-step .ensures))
 
 same-length-2 : tie.Need-same-length-2 Inv-loop μ-loop
 same-length-2 c = c .before .before .before .before .before .drain-step .kept .1 .0 ∙ c .before .before .before .before .before .before .before .loop .inv .same
 
 returns-2 : tie.Need-returns-2 Inv-loop μ-loop
-returns-2 c = draining-ends _ _ _ _ (c .before .before .before .before .before .before .before .loop .inv) (step-refused _ _ _ _ (c .before .before .before .before .before .drain-step .ensures) _ (c .before .enum-told2 .given .1)) (ap (λ (o : Out). o .1) (c .before .before .before .before .before .drain-step .ensures))
+returns-2 c = draining-ends _ _ _ _ (c .before .before .before .before .before .before .before .loop .inv) (step-refused _ _ _ _
+    (c .before .before .before .before .before .drain-step .ensures) _ (c .before .enum-told2 .given .1)) (ap (λ (o : Out). o .1)
+    (c .before .before .before .before .before .drain-step .ensures))
 
 pub drain-all-spec : {M : Type 1} → statement M
 drain-all-spec =

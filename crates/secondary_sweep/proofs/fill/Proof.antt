@@ -1,5 +1,5 @@
 -- `secondary_sweep::fill` meets its contract: each turn puts one slot into the output. Assumes nothing.
-use mathlib.Core.Path.{_≡_, refl, ap, _∙_}
+use mathlib.Core.Path.{_≡_, refl, ap}
 use Prim.Native.Nat.{_+_, _-_, _≤_}
 use native.Mathlib.Omega.{arith}
 use lib.ListN.{length, drop, length-set}
@@ -21,7 +21,13 @@ loop-holds : tie.Need-loop-holds Inv-loop μ-loop
 loop-holds c = (omega arith, refl, refl)
 
 loop-again : tie.Need-loop-again Inv-loop μ-loop
-loop-again c = (omega arith, simp length-set (c .before .before .before .loop .inv .1), fill-turn _ _ _ _ (c .before .before .before .loop .inv .2) _ (omega arith) (c .before .before .loop-test .taken) (ap (λ (q : KeyData). q .idx) (c .from-ffi .ensures)))
+loop-again c = (
+  omega arith,
+  simp length-set (c .before .before .before .loop .inv .1),
+  fill-turn _ _ _ _
+      (c .before .before .before .loop .inv .2) _ (omega arith)
+      (c .before .before .loop-test .taken) (ap (λ (q : KeyData). q .idx) (c .from-ffi .ensures)),
+)
 
 same-length : tie.Need-same-length Inv-loop μ-loop
 same-length c = c .before .loop .inv .1

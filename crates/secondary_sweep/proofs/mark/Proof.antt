@@ -29,10 +29,15 @@ same-length : tie.Need-same-length Inv-loop μ-loop
 same-length c = c .before .before .before .before .before .before .before .loop .inv .same
 
 returns : tie.Need-returns Inv-loop μ-loop
-returns c = marking-stopped _ _ _ _ _ (c .before .before .before .before .before .before .before .loop .inv) (c .before .before .before .before .before .before .loop-test .taken) (c .before .before .before .before .before .before .before .before .before .before .before .pre) (sym (c .before .before .before .slot .ensures) ∙ ap foundOf (c .before .r .given .1))
+returns c = marking-stopped _ _ _ _ _ (c .before .before .before .before .before .before .before .loop .inv)
+    (c .before .before .before .before .before .before .loop-test .taken)
+    (c .before .before .before .before .before .before .before .before .before .before .before .pre) (sym (c .before .before .before .slot .ensures)
+    ∙ ap foundOf (c .before .r .given .1))
 
 loop-again : tie.Need-loop-again Inv-loop μ-loop
-loop-again c = run-turn _ _ _ _ (c .before .before .before .before .before .before .before .loop .inv) (c .before .before .before .before .before .before .loop-test .taken) _ (stands _ _ _ (found-at (c .before .before .before .slot .ensures) (c .before .i .given .1)))
+loop-again c = run-turn _ _ _ _ (c .before .before .before .before .before .before .before .loop .inv)
+    (c .before .before .before .before .before .before .loop-test .taken) _ (stands _ _ _ (found-at (c .before .before .before .slot .ensures)
+    (c .before .i .given .1)))
 
 same-length-2 : tie.Need-same-length-2 Inv-loop μ-loop
 same-length-2 c = c .before .loop .inv .same

@@ -20,13 +20,28 @@ loop-holds : tie.Need-loop-holds Inv-loop μ-loop
 loop-holds c = (omega arith, refl, refl)
 
 mul-versions : tie.Need-mul-versions Inv-loop μ-loop
-mul-versions c = omega (arith, c .before .before .before .before .before .before .before .pre .1 (c .before .before .before .before .loop .j - 1) (omega arith), ap (λ (q : KeyData). q .idx) (c .before .from-ffi .ensures))
+mul-versions c = omega (
+  arith,
+  c .before .before .before .before .before .before .before .pre .1
+      (c .before .before .before .before .loop .j - 1) (omega arith),
+  ap (λ (q : KeyData). q .idx) (c .before .from-ffi .ensures),
+)
 
 slice-write-versions : tie.Need-slice-write-versions Inv-loop μ-loop
-slice-write-versions c = omega (arith, c .before .before .before .before .before .before .before .pre .1 (c .before .before .before .before .loop .j - 1) (omega arith), ap (λ (q : KeyData). q .idx) (c .before .from-ffi .ensures))
+slice-write-versions c = omega (
+  arith,
+  c .before .before .before .before .before .before .before .pre .1
+      (c .before .before .before .before .loop .j - 1) (omega arith),
+  ap (λ (q : KeyData). q .idx) (c .before .from-ffi .ensures),
+)
 
 loop-again : tie.Need-loop-again Inv-loop μ-loop
-loop-again c = (omega arith, simp length-set (c .before .before .before .before .loop .inv .1), unmarked-turn _ _ _ _ (c .before .before .before .loop-test .taken) (c .before .from-ffi .ensures) ∙ c .before .before .before .before .loop .inv .2)
+loop-again c = (
+  omega arith,
+  simp length-set (c .before .before .before .before .loop .inv .1),
+  unmarked-turn _ _ _ _
+      (c .before .before .before .loop-test .taken) (c .before .from-ffi .ensures) ∙ c .before .before .before .before .loop .inv .2,
+)
 
 same-length : tie.Need-same-length Inv-loop μ-loop
 same-length c = c .before .loop .inv .1

@@ -1,0 +1,43 @@
+-- No second outcome of retain, clear and disjoint: two outcomes that meet one contract are the same answer, header, arrays and output.
+-- Assumes nothing.
+use mathlib.Core.Path.{_≡_, refl, sym, ap, ap₂, _∙_}
+use mathlib.Core.List.{List}
+use Prim.Native.Nat.{ℕ}
+use Rattle.refusal.specs.Refusals.{numberOf}
+use Rattle.refusal.proofs.Numbers.{number-one-to-one}
+use Rattle.secondary.specs.declared.MapHeader.{MapHeader}
+use Rattle.secondary.specs.Map.{Map}
+use Rattle.secondary.specs.Calls.{Out}
+use Rattle.secondary.proofs.Only.{out-only}
+use Rattle.secondary_sweep.specs.declared.Swept.{Swept}
+use Rattle.secondary_sweep.specs.declared.Swept.the-variants as Swept·
+use Rattle.secondary_sweep.specs.declared.Sweep.{Sweep}
+use Rattle.secondary_sweep.specs.Outcomes.{sweptOf}
+
+pub swept-one-to-one : (a b : Swept) → sweptOf a ≡ sweptOf b → a ≡ b
+swept-one-to-one Swept·.Done Swept·.Done e = cc
+swept-one-to-one Swept·.Done (Swept·.Refused r) e = cc
+swept-one-to-one (Swept·.Refused r) Swept·.Done e = cc
+swept-one-to-one (Swept·.Refused r) (Swept·.Refused q) e = let n : numberOf r ≡ numberOf q = cc in ap Swept·.Refused (number-one-to-one r q n)
+
+-- the arrays after a call and the header
+abbrev mapOf : List ℕ → List ℕ → MapHeader → Map
+mapOf vs xs h = record { versions = vs; values = xs; head = h }
+
+module _ (vs us xs ys : List ℕ) where
+  -- retain and clear
+  pub sweep-only : (r q : Sweep) (o : Out) → _≡_ {A = Out} (sweptOf (r .answer), mapOf vs xs (r .header)) o → _≡_ {A = Out} (sweptOf (q .answer), mapOf us ys (q .header)) o
+      → (r ≡ q) × (vs ≡ us) × (xs ≡ ys)
+  sweep-only r q o e f =
+      let p = out-only sweptOf swept-one-to-one (r .answer) (q .answer) _ _ o e f in (
+        ap₂ (λ (h : MapHeader) (a : Swept). record { header = h; answer = a }) (ap (λ (m : Map). m .head) (p .1)) (p .0),
+        ap (λ (m : Map). m .versions) (p .1),
+        ap (λ (m : Map). m .values) (p .1),
+      )
+
+  pub disjoint-only : (r q : Swept) (h : MapHeader) (out outs : List ℕ) (o : Out × List ℕ) → _≡_ {A = Out × List ℕ} ((sweptOf r, mapOf vs xs h), out) o
+      → _≡_ {A = Out × List ℕ} ((sweptOf q, mapOf us ys h), outs) o → (r ≡ q) × (vs ≡ us) × (xs ≡ ys) × (out ≡ outs)
+  disjoint-only r q h out outs o e f =
+      let s : _≡_ {A = Out × List ℕ} ((sweptOf r, mapOf vs xs h), out) ((sweptOf q, mapOf us ys h), outs) = e ∙ sym f in
+      let p = out-only sweptOf swept-one-to-one r q _ _ (sweptOf q, mapOf us ys h) (ap (λ (z : Out × List ℕ). z .0) s) refl in
+      (p .0, ap (λ (m : Map). m .versions) (p .1), ap (λ (m : Map). m .values) (p .1), ap (λ (z : Out × List ℕ). z .1) s)
