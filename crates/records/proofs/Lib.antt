@@ -1,2 +1,6 @@
 pub mod Records
 pub mod Summaries
+pub mod Images
+pub mod Outcomes
+pub mod Faults
+pub mod Vectors

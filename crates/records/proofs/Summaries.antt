@@ -1,5 +1,5 @@
 -- What is kept of the records, one by one and of them all; and what a turn of the judge's loop makes of what is still to be read. Assumes nothing.
-use Prim.Native.Nat.{ℕ, zero, suc, _+_, _-_, _^_, _≤_, _<_}
+use Prim.Native.Nat.{ℕ, suc, _+_, _-_, _^_, _≤_, _<_}
 use mathlib.Core.Path.{_≡_, refl, sym, ap, _∙_}
 use mathlib.Core.Bool.{cond}
 use mathlib.Core.List.{List, [], _∷_}
@@ -10,12 +10,16 @@ use lib.ListN.{length}
 use borrow.Author.Tests.{lt-ltb, le-ltb, ne-eqb}
 use Rattle.lists.proofs.Tests.{split}
 use Rattle.numbers.specs.Told.{Told, tells, refused, onward}
-use Rattle.numbers.proofs.Told.{never, told, both, by-answer}
+use Rattle.numbers.specs.Numbers.{encoded, Bytes}
+use Rattle.numbers.proofs.Told.{onward-same, onward-assoc}
+use Rattle.numbers.proofs.Reading.{encode-decode}
 use Rattle.records.specs.declared.Record.{Record}
 use Rattle.records.specs.declared.Record.the-variants.{Vacant, Occupied}
 use Rattle.records.specs.declared.Summary.{Summary}
-use Rattle.records.specs.Records.{versionOf, presenceOf, recordAt, recordsFrom, listOf}
-use Rattle.records.specs.Summaries.{wrongOf, lives, wrongs, blank, summaryOf, judgedFrom, notedAs, noted}
+use Rattle.records.specs.Records.{versionOf, presenceOf, recordAt, recordsFrom, countOf, listOf, recordsOf}
+use Rattle.records.proofs.Images.{by-list, records-length}
+use Rattle.records.proofs.Records.{count-is}
+use Rattle.records.specs.Summaries.{wrongOf, lives, wrongs, blank, summaryOf, judgedFrom, judgedOf, notedAs, noted}
 
 -- ---- one by one
 
@@ -64,18 +68,8 @@ summed-all (r ∷ l) h =
 
 -- ---- the records still to be read
 
-records-length : (k : ℕ) (s : List ℕ) (at : ℕ) (l : List Record) (n : ℕ) → recordsFrom k s at ≡ tells (l, n) → length l ≡ k
-unfolding recordsFrom
-records-length zero s at l n e = sym (ap length (both (told e) .0))
-records-length (suc k) s at l n e =
-    by-answer (recordAt s at) _ (l, n) e (λ r f g.
-    by-answer (recordsFrom k s (r .1)) _ (l, n) g (λ m h i.
-    sym (ap length (both (told i) .0)) ∙ ap suc (records-length k s (r .1) (m .0) (m .1) h)))
-
 pub list-length : (k : ℕ) (s : List ℕ) (at : ℕ) (l : List Record) → listOf k s at ≡ tells l → length l ≡ k
-unfolding listOf
-list-length k s at l e =
-    by-answer (recordsFrom k s at) _ l e (λ m f g. split (ltb (m .1) (length s)) (λ t. never (rw t at g)) (λ t. ap length (sym (told (rw t at g))) ∙ records-length k s at (m .0) (m .1) f))
+list-length k s at l e = by-list k s at l e (λ n f h. records-length k s at l n f)
 
 -- what is kept of so many records from a place on, of which others have been kept
 abbrev pub keeping : ℕ → List ℕ → ℕ → Summary → Told Summary
@@ -105,11 +99,20 @@ module _ (s : List ℕ) (at : ℕ) (kept : Summary) where
   keeping-end h = rw (le-ltb at (length s) h)
 
 -- what is judged is what is kept from the first record on
-by-list : (from : ℕ) (x : Told (List Record)) → ((l : List Record) → x ≡ tells l → length l < 2 ^ 32)
-    → onward {B = ℕ × Summary} x (λ l. tells (from, summaryOf l)) ≡ onward (onward x (λ l. tells (summed blank l))) (λ k. tells (from, k))
-by-list from (tells l) h = ap (λ (k : Summary). tells (from, k)) (sym (summed-all l (h l refl)))
-by-list from (refused j) h = refl
-
 pub judged-kept : (count : ℕ) (s : List ℕ) (from : ℕ) → count < 2 ^ 32 → judgedFrom count s from ≡ onward (keeping count s from blank) (λ k. tells (from, k))
 unfolding judgedFrom
-judged-kept count s from h = by-list from (listOf count s from) (λ l e. omega (arith, list-length count s from l e))
+judged-kept count s from h =
+    sym (onward-assoc (listOf count s from) _ _
+    ∙ onward-same (listOf count s from) _ _ (λ l e. ap (λ (k : Summary). tells (from, k)) (summed-all l (omega (arith, list-length count s from l e)))))
+
+-- what is judged is said of the list of records alone: its place is the one after their number
+pub judged-records : (s : List ℕ) (most : ℕ) → Bytes s → judgedOf s most ≡ onward (recordsOf s most) (λ l. tells (length (encoded (length l)), summaryOf l))
+unfolding judgedOf judgedFrom recordsOf
+judged-records s most bytes =
+    onward-same (countOf s most) _ _ (λ c e.
+    onward-same (listOf (c .0) s (c .1)) _ _ (λ l f.
+    ap (λ (n : ℕ). tells (n, summaryOf l)) (place c e ∙ ap (λ (n : ℕ). length (encoded n)) (sym (list-length (c .0) s (c .1) l f)))))
+    ∙ sym (onward-assoc (countOf s most) _ _)
+  where
+    place : (c : ℕ × ℕ) → countOf s most ≡ tells c → c .1 ≡ length (encoded (c .0))
+    place c e = omega (arith, encode-decode 32 s 0 (c .0) (c .1) bytes (count-is s most (c .0) (c .1) e .0) .1)

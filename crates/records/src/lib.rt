@@ -31,12 +31,12 @@ pub fn read_record(bytes: &[u8], at: usize) -> RecordRead
     ensures { λ r. ⌜ recordOf r ≡ recordAt (now (bytes .entry)) at ⌝ }
 {
     match numbers::read_u32(bytes, at) {
-        Number::Refused(why) => RecordRead::Refused(why),
+        Number::Refused(no_version) => RecordRead::Refused(no_version),
         Number::Read {
             value: v,
             next: behind,
         } => match numbers::read_u32(bytes, behind) {
-            Number::Refused(why) => RecordRead::Refused(why),
+            Number::Refused(no_presence) => RecordRead::Refused(no_presence),
             Number::Read {
                 value: presence,
                 next: last,
@@ -52,7 +52,7 @@ pub fn read_record(bytes: &[u8], at: usize) -> RecordRead
                     return RecordRead::Refused(Refusal::Presence);
                 }
                 match numbers::read_u64(bytes, last) {
-                    Number::Refused(why) => RecordRead::Refused(why),
+                    Number::Refused(no_value) => RecordRead::Refused(no_value),
                     Number::Read { value, next } => RecordRead::Read {
                         slot: Record::Occupied { version, value },
                         next,

@@ -33,18 +33,18 @@ returns-2 c =
 returns-3 : tie.Need-returns-3
 returns-3 c =
     let a = c .before .before .before .before .before .args in
-    sym (no-version (a .bytes .now) (a .at) _ (sym (c .before .before .before .read-u32 .ensures) ∙ ap readingOf (c .before .why .given .1)))
+    sym (no-version (a .bytes .now) (a .at) _ (sym (c .before .before .before .read-u32 .ensures) ∙ ap readingOf (c .before .no-version .given .1)))
 
 returns-4 : tie.Need-returns-4
 returns-4 c =
     let a = c .before .before .before .before .before .before .before .before .before .args in
-    sym (no-presence (a .bytes .now) (a .at) _ _ (version-is (c .before .before .before .before .before)) _ (sym (c .before .before .before .read-u322 .ensures) ∙ ap readingOf (c .before .why2 .given .1)))
+    sym (no-presence (a .bytes .now) (a .at) _ _ (version-is (c .before .before .before .before .before)) _ (sym (c .before .before .before .read-u322 .ensures) ∙ ap readingOf (c .before .no-presence .given .1)))
 
 returns-5 : tie.Need-returns-5
 returns-5 c =
     let a = c .before .before .before .before .before .before .before .before .before .before .before .before .before .before .before .args in
     sym (no-value (a .bytes .now) (a .at) _ _ (version-is (c .before .before .before .before .before .before .before .before .before .before .before)) _ _ (presence-is (c .before .before .before .before .before .before .before)) (c .before .before .before .before .before .if1 .left) (c .before .before .before .before .if2 .left) _
-    (sym (c .before .before .before .read-u64 .ensures) ∙ ap readingOf (c .before .why3 .given .1)))
+    (sym (c .before .before .before .read-u64 .ensures) ∙ ap readingOf (c .before .no-value .given .1)))
 
 returns-6 : tie.Need-returns-6
 returns-6 c =
