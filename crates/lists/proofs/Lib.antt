@@ -3,3 +3,4 @@ pub mod Only
 pub mod Count
 pub mod Once
 pub mod Put
+pub mod Listed

@@ -5,8 +5,8 @@ use Prim.Native.Nat.{ℕ, zero, suc, _+_, _-_, _≤_, _<_}
 use native.Mathlib.Nat.{add-zero, add-suc, add-assoc, suc-add}
 use native.Mathlib.Numerals.{add-one}
 use native.Mathlib.Omega.{arith}
-use lib.ListN.{length, take, drop, set, getD, length-append, length-take, length-drop, length-set, take-append-drop, drop-of-length-le}
-use lib.Seq.{take-suc-set, drop-set-lt, take-set-le, drop-cons, getD-set-same, take-at, drop-at, drop-drop, length-take-le}
+use lib.ListN.{length, take, drop, set, getD, length-append, length-take, length-drop, length-set, take-append-drop, drop-of-length-le, List·getD-append}
+use lib.Seq.{take-suc-set, drop-set-lt, take-set-le, drop-cons, getD-set-same, take-at, drop-at, drop-drop, length-take-le, getD-append-add, getD-drop}
 use Rattle.lists.specs.Put.{put}
 
 pub put-nil : (b : List ℕ) (at : ℕ) → put b at [] ≡ b
@@ -85,3 +85,23 @@ put-turn out text whole at i h l e =
 
 pub put-end : (out text whole : List ℕ) (at i : ℕ) → length text ≤ i → put out (at + i) (drop i text) ≡ whole → out ≡ whole
 put-end out text whole at i h e = sym (rw (drop-of-length-le text h) (put-nil out (at + i))) ∙ e
+
+-- ---- a text that grows at its end
+
+-- a byte after a text
+pub set-put : (b : List ℕ) (at : ℕ) (t : List ℕ) (x n : ℕ) → n ≡ at + length t → n < length b → set (put b at t) n x ≡ put b at (t ++ (x ∷ []))
+set-put b at t x n e h =
+    rw e
+    (sym (put-nil (set (put b at t) (at + length t) x) (at + length t + 1))
+    ∙ put-cons (put b at t) (at + length t) x [] (omega (arith, length-put b at t (omega arith)))
+    ∙ put-put b at t (x ∷ []) (omega arith))
+
+-- what stands where the text is, and beyond it
+pub getD-put : (b t : List ℕ) (i : ℕ) → i < length t → getD (put b 0 t) i 0 ≡ getD t i 0
+getD-put b t i h = List·getD-append t (drop (0 + length t) b) 0 i h
+
+pub getD-put-past : (b t : List ℕ) (i : ℕ) → length t ≤ i → getD (put b 0 t) i 0 ≡ getD b i 0
+getD-put-past b t i h =
+    let e : i ≡ length t + (i - length t) = omega arith in
+    ap (λ (n : ℕ). getD (put b 0 t) n 0) e ∙ getD-append-add t (drop (0 + length t) b) (i - length t) 0
+    ∙ getD-drop (0 + length t) b (i - length t) 0 ∙ ap (λ (n : ℕ). getD b n 0) (omega arith)

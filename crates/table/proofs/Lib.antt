@@ -33,3 +33,4 @@ pub mod Reissue
 pub mod Checking
 pub mod Listed
 pub mod Chained
+pub mod Thread
