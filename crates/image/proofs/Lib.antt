@@ -1,0 +1,5 @@
+pub mod Writing
+pub mod Faults
+pub mod Slots
+pub mod Storing
+pub mod Building

@@ -1,3 +1,2 @@
 pub mod Image
 pub mod Rebuild
-pub mod Answers

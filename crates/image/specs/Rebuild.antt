@@ -28,14 +28,14 @@ use Rattle.table.specs.Thread.{nextFree}
 
 -- ---- the last faults, over the list of records: "then 13; then 14"
 
--- 13: what is wrong with a first record of this version
-unfoldable pub firstWrong : ℕ → Bool
-firstWrong version = eqb (version % 2) 1
+-- 13: whether a first record of this version and presence is wrong
+unfoldable pub firstWrong : ℕ → ℕ → Bool
+firstWrong version presence = eqb (version % 2) 1
 
 -- 13 "no first slot, or its version is odd"; 14 "version odd without value or even with one, slot 1 up"
 unfoldable pub fitting : List Record → Told (List Record)
 fitting [] = refused 13
-fitting (r ∷ l) = cond (firstWrong (versionOf r)) (refused 13) (cond (eqb (wrongs l) 0) (tells (r ∷ l)) (refused 14))
+fitting (r ∷ l) = cond (firstWrong (versionOf r) (presenceOf r)) (refused 13) (cond (eqb (wrongs l) 0) (tells (r ∷ l)) (refused 14))
 
 -- the records of an image of at most so many slots, or its first fault
 unfoldable pub judgedImage : List ℕ → ℕ → Told (List Record)
@@ -97,6 +97,10 @@ rebuiltTo vs ls ks xs l m =
 unfoldable pub rebuilt : List ℕ → List ℕ → List ℕ → List ℕ → List Record → Table
 rebuilt vs ls ks xs l = rebuiltTo vs ls ks xs l (length l)
 
+-- of an image for these lists
+unfoldable pub rebuiltFrom : List ℕ → List ℕ → List ℕ → List ℕ → List ℕ → Told Table
+rebuiltFrom vs ls ks xs bytes = onward (judgedImage bytes (length ks + 1)) (λ l. tells (rebuilt vs ls ks xs l))
+
 -- ---- rebuild
 
 -- the four lists
@@ -118,4 +122,4 @@ begun a (refused k) = (cannot k, a)
 unfoldable pub rebuild : List ℕ → List ℕ → List ℕ → List ℕ → List ℕ → Begun × Arrays
 rebuild vs ls ks xs bytes =
     begun (record { versions = vs; links = ls; keys = ks; values = xs })
-    (cond (lengthsFit vs ls ks xs) (onward (judgedImage bytes (length ks + 1)) (λ l. tells (rebuilt vs ls ks xs l))) (refused 1))
+    (cond (lengthsFit vs ls ks xs) (rebuiltFrom vs ls ks xs bytes) (refused 1))
