@@ -1,5 +1,6 @@
 -- Rebuilding as the code does it: the records are read one after the other, and each is stored into the next slot. Assumes nothing.
 use mathlib.Core.Path.{_≡_, refl, sym, ap, _∙_, subst}
+use mathlib.Core.Bool.{true, false}
 use mathlib.Core.List.{List, [], _∷_}
 use Prim.Native.Nat.{ℕ, suc, _+_, _-_, _≤_, _<_}
 use native.Mathlib.Nat.{sub-zero}
@@ -20,11 +21,13 @@ use Rattle.records.specs.declared.Summary.{Summary}
 use Rattle.records.specs.Records.{recordAt, recordsFrom}
 use Rattle.records.specs.Summaries.{summaryOf}
 use Rattle.records.proofs.Images.{records-first}
-use Rattle.table.specs.Table.{Table, limit}
+use Rattle.table.specs.Table.{Table, limit, lengthsFit}
+use Rattle.table.specs.Calls.{begins, cannot}
 use Rattle.table.specs.Thread.{nextFree}
 use Rattle.table.proofs.Shape.{Lengths}
-use Rattle.image.specs.Rebuild.{fitting, judgedImage, slotIn, isFull, isBare, verIn, linkIn, keyIn, valIn, rebuiltTo, rebuilt, rebuiltFrom}
-use Rattle.image.proofs.Faults.{Ready, fitting-told}
+use Rattle.table.proofs.Shape as shape
+use Rattle.image.specs.Rebuild.{fitting, judgedImage, slotIn, isFull, isBare, verIn, linkIn, keyIn, valIn, rebuiltTo, rebuilt, rebuiltFrom, Arrays, arraysOf, rebuild}
+use Rattle.image.proofs.Faults.{judgedAt, Ready, fitting-told, judged-refused, judged-ready}
 use Rattle.image.proofs.Slots.{first-full}
 use Rattle.image.proofs.Storing.{stored, stored-more, same-table, filled-few, lengths-to}
 
@@ -80,13 +83,30 @@ module _ (vs ls ks xs bytes : List ℕ) (from total : ℕ) (a : Starts vs ls ks 
       }
 
   module _ (t : Table) (at : ℕ) (b : Built vs ls ks xs bytes (a .list) t at) where
+    built-long : Lengths (t .versions) (t .links) (t .keys) (t .values) × (length (t .keys) ≡ length ks)
+    built-long =
+        subst (λ (u : Table). Lengths (u .versions) (u .links) (u .keys) (u .values) × (length (u .keys) ≡ length ks)) (sym (b .same))
+        (lengths-to vs ls ks xs (a .lengths) (a .list) fits (a .ready .few) (t .head .s) (b .high))
+
+    -- the lists keep their lengths
+    pub built-versions : length (t .versions) ≡ length vs
+    built-versions = omega (arith, built-long .0, built-long .1, a .lengths)
+
+    pub built-links : length (t .links) ≡ length ls
+    built-links = omega (arith, built-long .0, built-long .1, a .lengths)
+
+    pub built-keys : length (t .keys) ≡ length ks
+    built-keys = built-long .1
+
+    pub built-values : length (t .values) ≡ length xs
+    built-values = omega (arith, built-long .0, built-long .1, a .lengths)
+
     module _ (more : t .head .s < length (a .list)) where
       pub built-room : Room t
       unfolding rebuiltTo
       built-room =
-          let long = lengths-to vs ls ks xs (a .lengths) (a .list) fits (a .ready .few) (t .head .s) (b .high) in
           let few = filled-few vs ls ks xs (a .lengths) (a .list) fits (a .ready .few) (t .head .s) in
-          let w = subst (λ (u : Table). Lengths (u .versions) (u .links) (u .keys) (u .values) × (length (u .keys) ≡ length ks)) (sym (b .same)) long in
+          let w = built-long in
           let n = ap (λ (u : Table). u .head .n) (b .same) in
           omega (arith, few, w .0, w .1, n, a .ready .few, a .lengths)
 
@@ -120,3 +140,38 @@ module _ (vs ls ks xs bytes : List ℕ) (from total : ℕ) (a : Starts vs ls ks 
     built-all h =
         let e : t .head .s ≡ length (a .list) = omega (arith, b .high) in
         rw (a .ready .image) (ap tells (b .same ∙ ap (rebuiltTo vs ls ks xs (a .list)) e))
+
+-- ---- the whole call
+
+count-is-length : (l : List Record) → summaryOf l .count ≡ length l
+unfolding summaryOf
+count-is-length [] = refl
+count-is-length (r ∷ l) = refl
+
+abbrev arrays : List ℕ → List ℕ → List ℕ → List ℕ → Arrays
+arrays vs ls ks xs = record { versions = vs; links = ls; keys = ks; values = xs }
+
+module _ (vs ls ks xs bytes : List ℕ) where
+  pub rebuild-shape : lengthsFit vs ls ks xs ≡ false → (cannot 1, arrays vs ls ks xs) ≡ rebuild vs ls ks xs bytes
+  unfolding rebuild
+  rebuild-shape e = rw e
+
+  module _ (fit : lengthsFit vs ls ks xs ≡ true) where
+    pub starts : (from : ℕ) (kept : Summary) → judgedAt bytes (length ks + 1) ≡ tells (from, kept) → Starts vs ls ks xs bytes from (kept .count)
+    starts from kept e =
+        let r = judged-ready bytes (length ks + 1) from kept e in
+        record {
+          lengths = shape.lengths vs ls ks xs fit;
+          kept = kept;
+          list = r .0;
+          ready = r .1;
+          total-is = ap (λ (k : Summary). k .count) (r .1 .same) ∙ count-is-length (r .0);
+        }
+
+    pub rebuild-refused : (k : ℕ) → judgedAt bytes (length ks + 1) ≡ refused k → (cannot k, arrays vs ls ks xs) ≡ rebuild vs ls ks xs bytes
+    unfolding rebuild rebuiltFrom
+    rebuild-refused k e = rw (fit, judged-refused bytes (length ks + 1) k e)
+
+    pub rebuild-told : (t : Table) → tells t ≡ rebuiltFrom vs ls ks xs bytes → (begins (t .head), arraysOf t) ≡ rebuild vs ls ks xs bytes
+    unfolding rebuild
+    rebuild-told t e = rw (fit, ← e)

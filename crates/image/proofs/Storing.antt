@@ -1,6 +1,6 @@
 -- A record stored into the next slot: rebuilding goes slot by slot. Assumes nothing.
 use mathlib.Core.Path.{_≡_, refl, sym, ap, _∙_}
-use mathlib.Core.Logic.{by-cases}
+use mathlib.Core.Logic.{_≢_, by-cases}
 use mathlib.Core.Bool.{true, cond}
 use mathlib.Core.List.{List, [], _∷_, _++_}
 use Prim.Native.Nat.{ℕ, zero, suc, _+_, _-_, _%_, _≤_, _<_}
@@ -159,3 +159,34 @@ module _ (vs ls ks xs : List ℕ) (lengths : Lengths vs ls ks xs) (l : List Reco
         (by-record (slotIn l m)
         (λ v e. ap (storedNext (slots m)) e ∙ vacant-stored (omega arith) v e)
         (λ v x e. ap (storedNext (slots m)) e ∙ occupied-stored (omega arith) v x e)))
+
+-- ---- a stored record by its kind, as the code stores it
+
+module _ (t : Table) (r : Record) where
+  pub stored-first : t .head .s ≡ 0 → storedFirst t ≡ stored t r
+  unfolding stored
+  stored-first z = rw (eq-eqb (t .head .s) 0 z)
+
+  module _ (ne : t .head .s ≢ 0) where
+    pub stored-vacant : (v : ℕ) → r ≡ Vacant v → storedNext t (Vacant v) ≡ stored t r
+    unfolding stored
+    stored-vacant v e = rw (ne-eqb (t .head .s) 0 ne, e)
+
+    pub stored-occupied : (v x k : ℕ) → r ≡ Occupied v x → k ≡ pack (t .head .s) (odd v)
+        → record {
+          versions = set (t .versions) (t .head .s) v;
+          links = set (t .links) (t .head .s) (t .head .n);
+          keys = set (t .keys) (t .head .n) k;
+          values = set (t .values) (t .head .n) x;
+          head = record { n = t .head .n + 1; s = t .head .s + 1; f = t .head .f };
+        }
+        ≡ stored t r
+    unfolding stored
+    stored-occupied v x k e f = rw (ne-eqb (t .head .s) 0 ne, e, f)
+
+  pub stored-slots : stored t r .head .s ≡ t .head .s + 1
+  unfolding stored
+  stored-slots =
+      by-cases (ℕ-discrete (t .head .s) 0)
+      (λ z. rw (eq-eqb (t .head .s) 0 z) (omega (arith, z)))
+      (λ ne. rw (ne-eqb (t .head .s) 0 ne) (by-record r (λ v e. rw e) (λ v x e. rw e)))
