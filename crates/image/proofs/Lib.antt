@@ -3,3 +3,4 @@ pub mod Faults
 pub mod Slots
 pub mod Storing
 pub mod Building
+pub mod Rebuilt
