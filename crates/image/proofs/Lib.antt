@@ -4,3 +4,5 @@ pub mod Slots
 pub mod Storing
 pub mod Building
 pub mod Rebuilt
+pub mod Lookups
+pub mod Rewriting

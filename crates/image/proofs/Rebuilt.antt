@@ -61,6 +61,9 @@ module _ (vs ls ks xs : List ℕ) (l : List Record) (g : Given vs ls ks xs l) wh
   unfolding rebuilt rebuiltTo
   link-at i h = getD-put ls (listed (linkIn l) (length l)) i (omega (arith, length-listed (linkIn l) (length l))) ∙ getD-listed (linkIn l) (length l) i 0 h
 
+  pub version-at : (i : ℕ) → 1 ≤ i → i < length l → ver t i ≡ versionOf (slotIn l i)
+  version-at i low h = ver-at i h ∙ version-is l i low
+
   module _ (i : ℕ) (h : i < length l) (f : isFull l i ≡ true) where
     pub key-at : key t (count (isFull l) i) ≡ keyIn l i
     unfolding rebuilt rebuiltTo
@@ -77,8 +80,8 @@ module _ (vs ls ks xs : List ℕ) (l : List Record) (g : Given vs ls ks xs l) wh
     pub full-link : link t i ≡ count (isFull l) i
     full-link = link-at i h ∙ full-is l i f (λ v x e. occupied-link l i (full-low l i f) v x e)
 
-    pub full-version : ver t i ≡ versionOf (slotIn l i)
-    full-version = ver-at i h ∙ version-is l i (full-low l i f)
+    full-version : ver t i ≡ versionOf (slotIn l i)
+    full-version = version-at i (full-low l i f) h
 
     pub full-odd : versionOf (slotIn l i) % 2 ≡ 1
     full-odd = full-is l i f (λ v x e. ap (λ (r : Record). versionOf r % 2) e ∙ occupied-odd l (g .fits) i (full-low l i f) h v x e)
@@ -166,7 +169,7 @@ module _ (vs ls ks xs : List ℕ) (l : List Record) (g : Given vs ls ks xs l) wh
       let b : i < length l = omega (arith, slots-are) in
       by-cases (ℕ-discrete i 0)
       (λ z. omega (arith, ver-at i b, ap (verIn l) z, first-version l))
-      (λ ne. omega (arith, ver-at i b, version-is l i (omega arith), word-at i b))
+      (λ ne. omega (arith, version-at i (omega arith) b, word-at i b))
 
   pub orderly-rebuilt : Orderly t
   orderly-rebuilt =

@@ -119,6 +119,18 @@ fitting-right (r ∷ l) e (suc i) h b =
     (λ f. never (rw f at e))
     (λ f. split (eqb (wrongs l) 0) (λ g. none-wrong l (eqb-true _ _ g) i (omega arith)) (λ g. never (rw (f, g) at e)))
 
+all-right : (l : List Record) → ((i : ℕ) → i < length l → wrongOf (getD l i (Vacant 0)) ≡ 0) → wrongs l ≡ 0
+unfolding wrongs
+all-right [] h = refl
+all-right (r ∷ l) h = omega (arith, h 0 (omega arith), all-right l (λ i b. h (suc i) (omega arith)))
+
+-- a list fits that begins well and whose other records are not wrong
+pub fits-from : (l : List Record) → 1 ≤ length l → firstWrong (versionOf (slotIn l 0)) (presenceOf (slotIn l 0)) ≡ false
+    → ((i : ℕ) → 1 ≤ i → i < length l → wrongOf (slotIn l i) ≡ 0) → fitting l ≡ tells l
+unfolding fitting
+fits-from [] h f w = absurd (omega arith)
+fits-from (r ∷ l) h f w = rw (f, eq-eqb (wrongs l) 0 (all-right l (λ i b. w (suc i) (omega arith) (omega arith))))
+
 module _ (l : List Record) (fits : fitting l ≡ tells l) (i : ℕ) (low : 1 ≤ i) (high : i < length l) where
   pub vacant-even : (v : ℕ) → slotIn l i ≡ Vacant v → v % 2 ≡ 0
   vacant-even v e = sym (ap wrongOf e) ∙ fitting-right l fits i low high
@@ -133,6 +145,11 @@ unfolding FitAll
 fit-at [] f i h = absurd (omega arith)
 fit-at (r ∷ l) f zero h = f .0
 fit-at (r ∷ l) f (suc i) h = fit-at l (f .1) i (omega arith)
+
+pub fit-all : (l : List Record) → ((i : ℕ) → i < length l → Fit (slotIn l i)) → FitAll l
+unfolding FitAll
+fit-all [] h = tt
+fit-all (r ∷ l) h = (h 0 (omega arith), fit-all l (λ i b. h (suc i) (omega arith)))
 
 pub version-fits : (r : Record) → Fit r → versionOf r < 2 ^ 32
 version-fits (Vacant v) f = f
