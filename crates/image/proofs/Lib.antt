@@ -6,3 +6,4 @@ pub mod Building
 pub mod Rebuilt
 pub mod Lookups
 pub mod Rewriting
+pub mod Begins

@@ -64,7 +64,7 @@ module _ (vs ls ks xs : List ℕ) (l : List Record) (g : Given vs ls ks xs l) wh
     recorded-live a =
         record { low = a .low; high = omega (arith, a .high, slots-are vs ls ks xs l g); same = version-at vs ls ks xs l g (idx k) (a .low) (a .high) ∙ a .same }
 
-    recorded-full : Recorded l k → isFull l (idx k) ≡ true
+    pub recorded-full : Recorded l k → isFull l (idx k) ≡ true
     recorded-full a =
         odd-full vs ls ks xs l g (idx k) (a .high) (omega (arith, version-at vs ls ks xs l g (idx k) (a .low) (a .high), a .same, version-odd k))
 
