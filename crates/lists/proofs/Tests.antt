@@ -1,9 +1,11 @@
 -- Tests as facts: a Bool and what it says. Assumes nothing.
 use mathlib.Core.Path.{_≡_, refl, sym, ap, _∙_}
 use mathlib.Core.Bool.{Bool, true, false, cond, not, _&&_}
-use Prim.Native.Nat.{ℕ}
+use mathlib.Core.Logic.{_⊎_, inl, inr}
+use Prim.Native.Nat.{ℕ, _≤_, _<_}
 use native.Mathlib.Omega.{arith}
-use borrow.Author.Tests.{ltb-true, leb-true, eqb-true, lt-ltb, le-ltb, le-leb, lt-leb, eq-eqb, ne-eqb, not-true, not-false}
+use lib.Dec.{ltb}
+use borrow.Author.Tests.{ltb-true, ltb-false, leb-true, eqb-true, lt-ltb, le-ltb, le-leb, lt-leb, eq-eqb, ne-eqb, not-true, not-false}
 
 -- ---- rulesets: from facts to the tests of a definition, and from a computed `&&` to facts
 
@@ -44,6 +46,10 @@ same-test false false f g = refl
 pub false-if : (a : Bool) → (a ≡ true → ⊥) → a ≡ false
 false-if true h = absurd (h refl)
 false-if false h = refl
+
+-- of two numbers the first is below the second, or not
+pub lt-or-le : (a b : ℕ) → (a < b) ⊎ (b ≤ a)
+lt-or-le a b = split (ltb a b) (λ e. inl (ltb-true a b e)) (λ e. inr (ltb-false a b e))
 
 -- ---- what the code's `if !f(..)` tells of what f's contract says its answer is
 

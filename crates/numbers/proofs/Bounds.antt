@@ -8,10 +8,11 @@ use native.Mathlib.Omega.{arith}
 use lib.ListN.{length, drop, length-drop, drop-of-length-le}
 use lib.Seq.{drop-append-le}
 use lib.Pow.{pow-pos}
+use Rattle.lists.proofs.Tests.{lt-or-le}
 use Rattle.numbers.specs.Told.{Told, tells, refused}
 use Rattle.numbers.specs.declared.Partial.{Partial}
 use Rattle.numbers.specs.Numbers.{Step, whole, more, worth, takeOf, stepped, readFrom, numberAt, unread}
-use Rattle.numbers.proofs.Numbers.{part, by-byte, or}
+use Rattle.numbers.proofs.Numbers.{part, by-byte}
 use Rattle.numbers.proofs.Told.{never, told, refused-same, both}
 
 -- ---- an accepted number
@@ -73,7 +74,7 @@ unfolding numberAt readFrom
 number-longer bits s t at =
     ⊎-elim (λ h. inl (ap (λ (l : List ℕ). readFrom (2 ^ bits - 1) l at unread) (drop-of-length-le s {i = at} (omega arith)))) (λ h.
     ⊎-elim inl (λ e. inr (ap (λ (l : List ℕ). readFrom (2 ^ bits - 1) l at unread) (drop-append-le at s t h) ∙ e)) (longer (2 ^ bits - 1) (drop at s) t at unread))
-    (or (length s) at)
+    (lt-or-le (length s) at)
 
 -- so 11 stays 11, and a number stays that number, whatever follows
 pub form-stays : (bits : ℕ) (s t : List ℕ) (at : ℕ) → numberAt bits s at ≡ refused 11 → numberAt bits (s ++ t) at ≡ refused 11

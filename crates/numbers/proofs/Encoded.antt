@@ -9,8 +9,9 @@ use lib.ListN.{length, set}
 use borrow.Author.Tests.{lt-ltb, le-ltb}
 use Rattle.lists.specs.Put.{put}
 use Rattle.lists.proofs.Put.{put-nil, put-cons}
+use Rattle.lists.proofs.Tests.{lt-or-le}
 use Rattle.numbers.specs.Numbers.{worth, groupsOf, encoded}
-use Rattle.numbers.proofs.Numbers.{or, worth-next}
+use Rattle.numbers.proofs.Numbers.{worth-next}
 
 -- ---- one group, and the rest
 
@@ -29,7 +30,7 @@ enough (suc k) zero n h i = absurd (omega arith)
 enough (suc k) (suc j) n h i =
     ⊎-elim (λ l. groups-last k n l ∙ sym (groups-last j n l))
     (λ g. groups-more k n g ∙ ap (λ t. (n % 128 + 128) ∷ t) (enough k j (n / 128) (omega arith) (omega arith)) ∙ sym (groups-more j n g))
-    (or n 128)
+    (lt-or-le n 128)
 
 pub encoded-last : (n : ℕ) → n < 128 → encoded n ≡ n ∷ []
 unfolding encoded
@@ -53,7 +54,7 @@ length-bound zero n h = omega (arith, length-last n h)
 length-bound (suc k) n h =
     ⊎-elim (λ l. omega (arith, length-last n l))
     (λ g. omega (arith, length-more n g, length-bound k (n / 128) (omega (arith, rw (add-one (suc k)) at (worth-next (suc k))))))
-    (or n 128)
+    (lt-or-le n 128)
 
 -- ---- put into a buffer: the first byte is stored, and then the rest
 

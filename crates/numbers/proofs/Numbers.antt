@@ -1,26 +1,17 @@
 -- What one byte decides, after any groups and for any largest number. Assumes nothing.
 use Prim.Native.Nat.{ℕ, zero, suc, _+_, _-_, _*_, _/_, _%_, _^_, _≤_, _<_}
 use mathlib.Core.Path.{_≡_, refl, sym, ap, _∙_}
-use mathlib.Core.Bool.{Bool, true, false}
 use mathlib.Core.List.{List, _∷_}
-use mathlib.Core.Logic.{_⊎_, inl, inr, ⊎-elim}
+use mathlib.Core.Logic.{_⊎_, ⊎-elim}
 use native.Mathlib.Nat.{add-mul, mul-add, mul-assoc, mul-comm}
 use native.Mathlib.Numerals.{add-one}
 use native.Mathlib.Omega.{arith}
-use lib.Dec.{ltb}
 use lib.Pow.{pow-add}
-use borrow.Author.Tests.{lt-ltb, le-ltb, ltb-true, ltb-false}
+use borrow.Author.Tests.{lt-ltb, le-ltb}
+use Rattle.lists.proofs.Tests.{lt-or-le}
 use Rattle.numbers.specs.Told.{Told, tells, refused}
 use Rattle.numbers.specs.declared.Partial.{Partial}
 use Rattle.numbers.specs.Numbers.{Step, whole, more, worth, least, takeOf, stepped, readFrom}
-
--- of two numbers one is below the other, or not
-pub or : (a b : ℕ) → (a < b) ⊎ (b ≤ a)
-or a b = go (ltb a b) refl
-  where
-    go : (t : Bool) → ltb a b ≡ t → (a < b) ⊎ (b ≤ a)
-    go true e = inl (ltb-true a b e)
-    go false e = inr (ltb-false a b e)
 
 -- ---- worth and least
 
@@ -101,4 +92,4 @@ module _ (limit v g b at : ℕ) (s : List ℕ) where
       ⊎-elim (λ l. rw (after (take-low limit v g b l)) (low l)) (λ l.
       ⊎-elim (λ h. rw (after (take-high limit v g b l h)) (high l h)) (λ h.
       ⊎-elim (λ i. rw (read-last l h i) (last l h i)) (λ i. rw (read-more l h i) (goes-on l h i))
-      (or b 128)) (or limit (v + b * worth g))) (or b (least g))
+      (lt-or-le b 128)) (lt-or-le limit (v + b * worth g))) (lt-or-le b (least g))

@@ -7,10 +7,11 @@ use native.Mathlib.Nat.{mul-le-mul-right}
 use native.Mathlib.Omega.{arith}
 use lib.ListN.{length, drop}
 use lib.Seq.{drop-append-seam, drop-drop, getD-drop}
+use Rattle.lists.proofs.Tests.{lt-or-le}
 use Rattle.numbers.specs.Told.{Told, tells}
 use Rattle.numbers.specs.Numbers.{worth, least, readFrom, numberAt, groupsOf, encoded, Bytes}
 use Rattle.numbers.proofs.Told.{never, told, both}
-use Rattle.numbers.proofs.Numbers.{part, worth-next, least-small, least-next, regroup, read-last, read-more, by-byte, or}
+use Rattle.numbers.proofs.Numbers.{part, worth-next, least-small, least-next, regroup, read-last, read-more, by-byte}
 use Rattle.numbers.proofs.Encoded.{groups-last, groups-more, encoded-last, encoded-more}
 
 -- ---- decode of encode
@@ -38,7 +39,7 @@ groups-back limit (suc k) x v g at s f l h =
     (λ i. rw (groups-more k x i) (more-back limit x v g at (groupsOf k (x / 128)) s i h
     (groups-back limit k (x / 128) (v + x % 128 * worth g) (g + 1) (at + 1) s (omega arith) (rw (least-next g) (omega arith))
     (omega (arith, regroup x (worth g), ap (λ (y : ℕ). x / 128 * y) (worth-next g))))))
-    (or x 128)
+    (lt-or-le x 128)
 
 -- at any width, where the bytes go on with the shortest form of n, n is read, and the place is the one after it
 pub decode-at : (bits n : ℕ) (s rest : List ℕ) (at : ℕ) → n < 2 ^ bits → drop at s ≡ encoded n ++ rest

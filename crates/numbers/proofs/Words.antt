@@ -1,7 +1,7 @@
 -- The rules' words for reading a number say what `numberAt` says, at any width. Assumes nothing.
 use Prim.Native.Nat.{ℕ, zero, suc, _+_, _-_, _*_, _%_, _^_, _≤_, _<_}
 use mathlib.Core.Path.{_≡_, refl}
-use mathlib.Core.Bool.{Bool, true, false, _||_}
+use mathlib.Core.Bool.{Bool, true, false, _||_, or-true}
 use mathlib.Core.List.{List, [], _∷_}
 use mathlib.Core.Logic.{_⊎_, inl, inr, ⊎-elim}
 use native.Mathlib.Nat.{mul-le-mul-right}
@@ -11,16 +11,12 @@ use lib.ListN.{drop}
 use lib.Seq.{getD-drop}
 use lib.Pow.{pow-pos, pow-mono, pow-add}
 use borrow.Author.Tests.{lt-ltb, le-ltb, le-leb, eq-eqb, ne-eqb, leb-true, eqb-true}
-use Rattle.lists.proofs.Tests.{and-true, and-left, and-right, false-if}
+use Rattle.lists.proofs.Tests.{lt-or-le, and-true, and-left, and-right, false-if}
 use Rattle.numbers.specs.Numbers.{worth, least, readFrom, numberAt, Bytes}
 use Rattle.numbers.specs.Words.{zeroLast, lastByte, lastWrong, byWords}
-use Rattle.numbers.proofs.Numbers.{part, worth-next, by-byte, or}
+use Rattle.numbers.proofs.Numbers.{part, worth-next, by-byte}
 
 -- ---- the tests
-
-or-right : (a b : Bool) → b ≡ true → (a || b) ≡ true
-or-right true b e = refl
-or-right false b e = e
 
 or-cases : (a b : Bool) → (a || b) ≡ true → (a ≡ true) ⊎ (b ≡ true)
 or-cases true b e = inl refl
@@ -52,8 +48,8 @@ module _ (bits v g b : ℕ) (below : v < worth g) (inside : 7 * g < bits) where
   wrong : b < 256 → 2 ^ bits ≤ v + b * worth g → lastWrong bits v g b ≡ true
   wrong f h =
       ⊎-elim (λ i. absurd (omega (arith, room i f))) (λ i.
-      and-true (eq-eqb (g + 1) (lastByte bits) (omega arith)) (or-right (leb 128 b) _ (le-leb (2 ^ bits) (v + b * worth g) h)))
-      (or (g + 1) (lastByte bits))
+      and-true (eq-eqb (g + 1) (lastByte bits) (omega arith)) (rw (le-leb (2 ^ bits) (v + b * worth g) h) (or-true (leb 128 b))))
+      (lt-or-le (g + 1) (lastByte bits))
 
   right : v + b * worth g < 2 ^ bits → lastWrong bits v g b ≡ false
   right h =
@@ -65,7 +61,7 @@ module _ (bits v g b : ℕ) (below : v < worth g) (inside : 7 * g < bits) where
   -- what goes on within the width leaves bits for another group
   onwards : v + b * worth g < 2 ^ bits → 128 ≤ b → 7 * (g + 1) < bits
   onwards h i =
-      ⊎-elim (λ j. omega arith) (λ j. absurd (omega (arith, full (omega arith) i))) (or (g + 1) (lastByte bits))
+      ⊎-elim (λ j. omega arith) (λ j. absurd (omega (arith, full (omega arith) i))) (lt-or-le (g + 1) (lastByte bits))
 
   -- the groups so far stay below the worth of the next one
   grows : v + b % 128 * worth g < worth (g + 1)

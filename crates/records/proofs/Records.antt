@@ -10,9 +10,10 @@ use Rattle.lists.proofs.Tests.{split}
 use Rattle.numbers.specs.Told.{tells, refused}
 use Rattle.numbers.specs.Numbers.{numberAt, encoded}
 use Rattle.numbers.proofs.Told.{never, told, both, by-answer}
-use Rattle.numbers.proofs.Encoded.{length-last}
+use Rattle.numbers.proofs.Encoded.{length-last, length-bound}
+use Rattle.records.specs.declared.Record.{Record}
 use Rattle.records.specs.declared.Record.the-variants.{Vacant, Occupied}
-use Rattle.records.specs.Records.{recordAt, countOf, recordBytes}
+use Rattle.records.specs.Records.{recordAt, countOf, recordBytes, Fit}
 
 -- ---- a record
 
@@ -78,3 +79,8 @@ length-vacant v = simp length-append (ap (λ (n : ℕ). length (encoded v) + n) 
 pub length-occupied : (v x : ℕ) → length (recordBytes (Occupied v x)) ≡ length (encoded v) + 1 + length (encoded x)
 unfolding recordBytes
 length-occupied v x = simp length-append (ap (λ (n : ℕ). length (encoded v) + n + length (encoded x)) (length-last 1 (omega arith)))
+
+-- five bytes for a version, one for a presence, ten for a value
+pub length-record : (r : Record) → Fit r → length (recordBytes r) ≤ 16
+length-record (Vacant v) f = omega (arith, length-vacant v, length-bound 4 v (omega arith))
+length-record (Occupied v x) f = omega (arith, length-occupied v x, length-bound 4 v (omega (arith, f .0)), length-bound 9 x (omega (arith, f .1)))

@@ -7,13 +7,14 @@ use Rattle.records.specs.declared.Record.{Record}
 use Rattle.records.specs.declared.Record.the-variants.{Vacant, Occupied}
 use Rattle.records.specs.Records.{recordAt, recordsFrom, countOf, listOf, recordsOf, recordBytes, listBytes, bytesOf}
 
--- accepted: the image of a fresh table; after insert 7, 300; after remove 1v1; a first slot with a value; no slot
+-- accepted: the image of a fresh table; after insert 7, 300; after remove 1v1; a first slot with a value; the largest value; no slot
 images : List (Told (List Record))
 images =
     recordsOf (1 ∷ 0 ∷ 0 ∷ []) 5
     ∷ recordsOf (3 ∷ 0 ∷ 0 ∷ 1 ∷ 1 ∷ 7 ∷ 1 ∷ 1 ∷ 0xAC ∷ 2 ∷ []) 5
     ∷ recordsOf (3 ∷ 0 ∷ 0 ∷ 2 ∷ 0 ∷ 1 ∷ 1 ∷ 0xAC ∷ 2 ∷ []) 5
     ∷ recordsOf (1 ∷ 2 ∷ 1 ∷ 5 ∷ []) 5
+    ∷ recordsOf (1 ∷ 0 ∷ 1 ∷ 255 ∷ 255 ∷ 255 ∷ 255 ∷ 255 ∷ 255 ∷ 255 ∷ 255 ∷ 255 ∷ 1 ∷ []) 5
     ∷ recordsOf (0 ∷ []) 5
     ∷ []
 
@@ -22,6 +23,7 @@ images-are : images
     ∷ tells (Vacant 0 ∷ Occupied 1 7 ∷ Occupied 1 300 ∷ [])
     ∷ tells (Vacant 0 ∷ Vacant 2 ∷ Occupied 1 300 ∷ [])
     ∷ tells (Occupied 2 5 ∷ [])
+    ∷ tells (Occupied 0 18446744073709551615 ∷ [])
     ∷ tells []
     ∷ []
 unfolding images recordsOf countOf listOf recordsFrom recordAt numberAt readFrom takeOf
