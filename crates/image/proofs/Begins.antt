@@ -11,12 +11,11 @@ use native.Mathlib.Decide.{ℕ-discrete}
 use lib.ListN.{length}
 use lib.Dec.{eqb}
 use borrow.Author.Tests.{eqb-true}
-use Rattle.lists.specs.Count.{count}
 use Rattle.lists.specs.Listed.{picked}
-use Rattle.lists.proofs.Listed.{count-below, length-picked, getD-picked}
+use Rattle.lists.proofs.Listed.{mem-picked, picked-mem, once-picked}
 use Rattle.numbers.proofs.Told.{both}
 use Rattle.lists.proofs.Tests.{split, true-false}
-use Rattle.lists.proofs.Once.{Once, once-nil, once-cons, once-append, getD-mem}
+use Rattle.lists.proofs.Once.{once-nil}
 use Rattle.keys.specs.Keys.{W, idx, pack, version, asRead}
 use Rattle.keys.proofs.Keys.{pack-same, read-pack, read-is, is-read}
 use Rattle.records.specs.declared.Record.{Record}
@@ -30,7 +29,7 @@ use Rattle.image.proofs.Slots.{full-low}
 use Rattle.image.proofs.Rebuilt.{Given, small, word-at, full-odd, sound-rebuilt}
 use Rattle.image.proofs.Lookups.{recorded, Recorded, isRecorded, is-recorded, recorded-is, recorded-full, find-rebuilt, detached-rebuilt}
 
--- ---- the entries of those that pass
+-- ---- the keys of entries
 
 keys-append : (l m : List (ℕ × ℕ)) → keysOf (l ++ m) ≡ keysOf l ++ keysOf m
 keys-append [] m = refl
@@ -43,38 +42,6 @@ keys-picked P a b (suc n) =
     split (P n)
     (λ e. rw e (keys-append (picked P (λ i. (a i, b i)) n) ((a n, b n) ∷ []) ∙ ap (λ (k : List ℕ). k ++ (a n ∷ [])) (keys-picked P a b n)))
     (λ e. rw e (keys-picked P a b n))
-
--- who is picked
-mem-picked : {A : Type 0} (P : ℕ → Bool) (g : ℕ → A) (n : ℕ) (x : A) → List·Memᴰ x (picked P g n) → (i : ℕ) × (i < n) × (P i ≡ true) × (x ≡ g i)
-unfolding picked
-mem-picked P g zero x m = absurd (List·Memᴰ·not-nil m)
-mem-picked P g (suc n) x m =
-    split (P n)
-    (λ e.
-    let w : List·Memᴰ x (picked P g n ++ (g n ∷ [])) = rw e at m in
-    ⊎-elim
-    (λ q. let r = mem-picked P g n x q in (r .0, omega (arith, r .1), r .2, r .3))
-    (λ q. (n, omega arith, e, List·Memᴰ·eq-of-singleton q))
-    (List·Memᴰ·append-cases (picked P g n) w))
-    (λ e. let r = mem-picked P g n x (rw e at m) in (r .0, omega (arith, r .1), r .2, r .3))
-
-picked-mem : (P : ℕ → Bool) (g : ℕ → ℕ) (n i : ℕ) → i < n → P i ≡ true → List·Memᴰ (g i) (picked P g n)
-picked-mem P g n i h p =
-    Memᴰ·cast (sym (getD-picked P g n i 0 h p)) (getD-mem (picked P g n) (count P i) (omega (arith, length-picked P g n, count-below P n i h p)))
-
--- different numbers are picked once
-once-picked : (P : ℕ → Bool) (g : ℕ → ℕ) (n : ℕ) → ((i j : ℕ) → i < n → j < n → P i ≡ true → P j ≡ true → g i ≡ g j → i ≡ j) → Once (picked P g n)
-unfolding picked
-once-picked P g zero inj = once-nil
-once-picked P g (suc n) inj =
-    let r = once-picked P g n (λ i j h k. inj i j (omega arith) (omega arith)) in
-    split (P n)
-    (λ e. rw e
-    (once-append (picked P g n) (g n ∷ []) r (once-cons (g n) [] List·Memᴰ·not-nil once-nil) (λ x m q.
-    let w = mem-picked P g n x m in
-    let z : w .0 ≡ n = inj (w .0) n (omega (arith, w .1)) (omega arith) (w .2) e (sym (w .3) ∙ List·Memᴰ·eq-of-singleton q) in
-    omega (arith, z, w .1))))
-    (λ e. rw e r)
 
 -- ---- the base
 

@@ -25,11 +25,11 @@ pub minus-true : (P : ℕ → Bool) (x k : ℕ) → k ≢ x → P k ≡ true →
 unfolding minus
 minus-true P x k ne h = rw (ne-eqb k x ne) h
 
-minus-off : (P : ℕ → Bool) (x k : ℕ) → k ≢ x → minus P x k ≡ P k
+pub minus-off : (P : ℕ → Bool) (x k : ℕ) → k ≢ x → minus P x k ≡ P k
 unfolding minus
 minus-off P x k ne = rw (ne-eqb k x ne)
 
-minus-at : (P : ℕ → Bool) (x : ℕ) → minus P x x ≡ false
+pub minus-at : (P : ℕ → Bool) (x : ℕ) → minus P x x ≡ false
 unfolding minus
 minus-at P x = rw (eq-eqb x x refl)
 
@@ -41,7 +41,7 @@ pub count-no : (P : ℕ → Bool) (n : ℕ) → P n ≡ false → count P (suc n
 unfolding count
 count-no P n h = rw h
 
-count-zero : (P : ℕ → Bool) → count P 0 ≡ 0
+pub count-zero : (P : ℕ → Bool) → count P 0 ≡ 0
 unfolding count
 count-zero P = refl
 

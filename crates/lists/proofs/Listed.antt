@@ -1,9 +1,9 @@
 -- Lists made number by number: their lengths, and what stands where. The numbers that pass stand in order, each at the count of those before it.
 -- Assumes nothing.
 use mathlib.Core.Path.{_≡_, refl, sym, ap, _∙_}
-use mathlib.Core.Logic.{by-cases}
+use mathlib.Core.Logic.{by-cases, ⊎-elim}
 use mathlib.Core.Bool.{Bool, true, false}
-use mathlib.Core.List.{List, [], _∷_, _++_}
+use mathlib.Core.List.{List, [], _∷_, _++_, List·Memᴰ, List·Memᴰ·not-nil, List·Memᴰ·append-cases, List·Memᴰ·eq-of-singleton, Memᴰ·cast}
 use Prim.Native.Nat.{ℕ, zero, suc, _+_, _≤_, _<_}
 use native.Mathlib.Omega.{arith}
 use native.Mathlib.Numerals.{add-one}
@@ -14,6 +14,7 @@ use Rattle.lists.specs.Count.{count}
 use Rattle.lists.specs.Listed.{listed, picked}
 use Rattle.lists.proofs.Tests.{split, true-false}
 use Rattle.lists.proofs.Count.{count-yes, count-no}
+use Rattle.lists.proofs.Once.{Once, once-nil, once-cons, once-append, getD-mem}
 
 -- ---- counts
 
@@ -108,3 +109,37 @@ module _ {A : Type 0} (P : ℕ → Bool) (g : ℕ → A) where
       split (P n)
       (λ q. rw q (List·getD-append (picked P g n) (g n ∷ []) d (count P i) (omega (arith, length-picked n, count-below P n i (omega arith) p)) ∙ r))
       (λ q. rw q r))
+
+-- ---- members
+
+-- who is picked
+pub mem-picked : {A : Type 0} (P : ℕ → Bool) (g : ℕ → A) (n : ℕ) (x : A) → List·Memᴰ x (picked P g n) → (i : ℕ) × (i < n) × (P i ≡ true) × (x ≡ g i)
+unfolding picked
+mem-picked P g zero x m = absurd (List·Memᴰ·not-nil m)
+mem-picked P g (suc n) x m =
+    split (P n)
+    (λ e.
+    let w : List·Memᴰ x (picked P g n ++ (g n ∷ [])) = rw e at m in
+    ⊎-elim
+    (λ q. let r = mem-picked P g n x q in (r .0, omega (arith, r .1), r .2, r .3))
+    (λ q. (n, omega arith, e, List·Memᴰ·eq-of-singleton q))
+    (List·Memᴰ·append-cases (picked P g n) w))
+    (λ e. let r = mem-picked P g n x (rw e at m) in (r .0, omega (arith, r .1), r .2, r .3))
+
+pub picked-mem : (P : ℕ → Bool) (g : ℕ → ℕ) (n i : ℕ) → i < n → P i ≡ true → List·Memᴰ (g i) (picked P g n)
+picked-mem P g n i h p =
+    Memᴰ·cast (sym (getD-picked P g n i 0 h p)) (getD-mem (picked P g n) (count P i) (omega (arith, length-picked P g n, count-below P n i h p)))
+
+-- different numbers are picked once
+pub once-picked : (P : ℕ → Bool) (g : ℕ → ℕ) (n : ℕ) → ((i j : ℕ) → i < n → j < n → P i ≡ true → P j ≡ true → g i ≡ g j → i ≡ j) → Once (picked P g n)
+unfolding picked
+once-picked P g zero inj = once-nil
+once-picked P g (suc n) inj =
+    let r = once-picked P g n (λ i j h k. inj i j (omega arith) (omega arith)) in
+    split (P n)
+    (λ e. rw e
+    (once-append (picked P g n) (g n ∷ []) r (once-cons (g n) [] List·Memᴰ·not-nil once-nil) (λ x m q.
+    let w = mem-picked P g n x m in
+    let z : w .0 ≡ n = inj (w .0) n (omega (arith, w .1)) (omega arith) (w .2) e (sym (w .3) ∙ List·Memᴰ·eq-of-singleton q) in
+    omega (arith, z, w .1))))
+    (λ e. rw e r)

@@ -6,7 +6,7 @@ use native.Mathlib.Nat.{add-zero, add-suc, add-assoc, suc-add}
 use native.Mathlib.Numerals.{add-one}
 use native.Mathlib.Omega.{arith}
 use lib.ListN.{length, take, drop, set, getD, length-append, length-take, length-drop, length-set, take-append-drop, drop-of-length-le, List·getD-append}
-use lib.Seq.{take-suc-set, drop-set-lt, take-set-le, drop-cons, getD-set-same, take-at, drop-at, drop-drop, length-take-le, getD-append-add, getD-drop}
+use lib.Seq.{take-suc-set, drop-set-lt, take-set-le, drop-cons, getD-set-same, take-at, drop-at, drop-drop, length-take-le, getD-take, getD-drop, getD-append-add}
 use Rattle.lists.specs.Put.{put}
 
 pub put-nil : (b : List ℕ) (at : ℕ) → put b at [] ≡ b
@@ -96,12 +96,27 @@ set-put b at t x n e h =
     ∙ put-cons (put b at t) (at + length t) x [] (omega (arith, length-put b at t (omega arith)))
     ∙ put-put b at t (x ∷ []) (omega arith))
 
--- what stands where the text is, and beyond it
-pub getD-put : (b t : List ℕ) (i : ℕ) → i < length t → getD (put b 0 t) i 0 ≡ getD t i 0
-getD-put b t i h = List·getD-append t (drop (0 + length t) b) 0 i h
+-- ---- what stands in the buffer
 
-pub getD-put-past : (b t : List ℕ) (i : ℕ) → length t ≤ i → getD (put b 0 t) i 0 ≡ getD b i 0
-getD-put-past b t i h =
-    let e : i ≡ length t + (i - length t) = omega arith in
-    ap (λ (n : ℕ). getD (put b 0 t) n 0) e ∙ getD-append-add t (drop (0 + length t) b) (i - length t) 0
-    ∙ getD-drop (0 + length t) b (i - length t) 0 ∙ ap (λ (n : ℕ). getD b n 0) (omega arith)
+pub getD-put-before : (b : List ℕ) (at : ℕ) (t : List ℕ) (i : ℕ) → i < at → at ≤ length b → getD (put b at t) i 0 ≡ getD b i 0
+getD-put-before b at t i h l = List·getD-append (take at b) _ 0 i (simp length-take (omega arith)) ∙ getD-take at b i 0 h
+
+pub getD-put-in : (b : List ℕ) (at : ℕ) (t : List ℕ) (i : ℕ) → i < length t → at ≤ length b → getD (put b at t) (at + i) 0 ≡ getD t i 0
+getD-put-in b at t i h l =
+    ap (λ (n : ℕ). getD (put b at t) (n + i) 0) (sym (length-take-le at b l))
+    ∙ getD-append-add (take at b) (t ++ drop (at + length t) b) i 0
+    ∙ List·getD-append t _ 0 i h
+
+pub getD-put-after : (b : List ℕ) (at : ℕ) (t : List ℕ) (i : ℕ) → at + length t ≤ i → at ≤ length b → getD (put b at t) i 0 ≡ getD b i 0
+getD-put-after b at t i h l =
+    ap (λ (n : ℕ). getD (put b at t) n 0) split
+    ∙ getD-append-add (take at b) (t ++ drop (at + length t) b) (length t + (i - (at + length t))) 0
+    ∙ getD-append-add t (drop (at + length t) b) (i - (at + length t)) 0
+    ∙ getD-drop (at + length t) b (i - (at + length t)) 0
+    ∙ ap (λ (n : ℕ). getD b n 0) whole
+  where
+    split : i ≡ length (take at b) + (length t + (i - (at + length t)))
+    split = omega (arith, length-take-le at b l)
+
+    whole : at + length t + (i - (at + length t)) ≡ i
+    whole = omega arith

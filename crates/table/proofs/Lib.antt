@@ -34,3 +34,4 @@ pub mod Checking
 pub mod Listed
 pub mod Chained
 pub mod Thread
+pub mod Marking

@@ -7,18 +7,20 @@ use mathlib.Core.List.{List, [], _∷_, _++_, List·Memᴰ, List·Memᴰ·cases-
 use mathlib.Core.Option.{Option, none, some}
 use Prim.Native.Nat.{ℕ, zero, suc, _≤_, _<_, zero-le}
 use native.Mathlib.Omega.{arith}
-use lib.Dec.{leb, eqb}
+use lib.Dec.{leb}
 use lib.ListN.{length, getD}
-use borrow.Author.Tests.{leb-true, le-leb, eq-eqb, not-true}
+use borrow.Author.Tests.{leb-true, le-leb, lt-leb, not-true}
 use Rattle.lists.specs.Put.{put}
+use Rattle.lists.specs.Among.{among}
 use Rattle.lists.proofs.Tests.{split, true-false, parts}
 use Rattle.lists.proofs.Put.{put-nil}
+use Rattle.lists.proofs.Among.{among-same, among-rest}
 use Rattle.lists.proofs.Once.{Once, once-nil, once-cons}
 use Rattle.keys.specs.Keys.{idx, pack, version, asRead}
 use Rattle.keys.proofs.Keys.{is-read}
 use Rattle.table.specs.Table.{Table, link, key, val, hasShape, isLive, dead, isHeld}
 use Rattle.table.specs.Calls.{said-value, said-done, refused, found, placeIn, place, lookup}
-use Rattle.table.specs.Sweeps.{Places, places, bars, placed, among, placesOf, given, disjoint}
+use Rattle.table.specs.Sweeps.{Places, places, bars, placed, placesOf, given, disjoint}
 use Rattle.table.proofs.Refused.{Tests, first, ruled, ruled-keeps}
 
 -- ---- the tests, in list order: each key by 2 then 5; 6 comes last
@@ -81,6 +83,18 @@ disjoint-ruled t ks out =
     (λ a. rw (a, places-seated t [] ks, first-append (keyTests t [] ks) ((leb (length ks) (length out), 6) ∷ [])) (given-ruled (first (keyTests t [] ks)) (linksOf t ks) ks out))
     (λ a. rw a)
 
+-- the answer, by what the keys' tests say
+module _ (t : Table) (ks out : List ℕ) (sh : hasShape t ≡ true) where
+  pub disjoint-barred : (r : ℕ) → first (keyTests t [] ks) ≡ some r → disjoint t ks out ≡ (refused r, out)
+  disjoint-barred r e = disjoint-ruled t ks out ∙ rw (sh, first-append (keyTests t [] ks) _, e)
+
+  module _ (e : first (keyTests t [] ks) ≡ none) where
+    pub disjoint-short : length out < length ks → disjoint t ks out ≡ (refused 6, out)
+    disjoint-short h = disjoint-ruled t ks out ∙ rw (sh, first-append (keyTests t [] ks) _, e, lt-leb (length ks) (length out) h)
+
+    pub disjoint-given : length ks ≤ length out → disjoint t ks out ≡ (said-done, put out 0 (linksOf t ks))
+    disjoint-given h = disjoint-ruled t ks out ∙ rw (sh, first-append (keyTests t [] ks) _, e, le-leb (length ks) (length out) h)
+
 pub disjoint-refused-keeps : (t : Table) (ks out : List ℕ) (r : ℕ) → disjoint t ks out .0 ≡ refused r → disjoint t ks out .1 ≡ out
 disjoint-refused-keeps t ks out = ruled-keeps out _ (first (disjointTests t ks out)) _ (disjoint-ruled t ks out) refl
 
@@ -110,14 +124,6 @@ disjoint-gives t ks out =
 pub first-none : (b : Bool) (r : ℕ) (f : Option ℕ) → cond b f (some r) ≡ none → (b ≡ true) × (f ≡ none)
 first-none true r f e = (refl, e)
 first-none false r f e = let z : _≡_ {A = ℕ} 0 1 = cc in absurd (omega arith)
-
-among-same : (x j : ℕ) (l : List ℕ) → x ≡ j → among x (j ∷ l) ≡ true
-unfolding among
-among-same x j l e = rw (eq-eqb x j e)
-
-among-rest : (x j : ℕ) (l : List ℕ) → among x (j ∷ l) ≡ false → among x l ≡ false
-unfolding among
-among-rest x j l e = split (eqb x j) (λ q. true-false refl (rw q at e)) (λ q. rw q at e)
 
 module _ (t : Table) where
   -- the first key of a list that passes, and the rest

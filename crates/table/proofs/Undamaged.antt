@@ -6,12 +6,13 @@ use Prim.Native.Nat.{ℕ}
 use native.Mathlib.Omega.{arith}
 use lib.Dec.{leb}
 use lib.ListN.{length}
+use Rattle.lists.specs.Among.{among}
 use Rattle.lists.proofs.Tests.{split}
 use Rattle.keys.specs.Keys.{idx, version, asRead}
 use Rattle.table.specs.Table.{Table, isLive, dead}
 use Rattle.table.specs.Calls.{Said, said-key, said-value, said-pair, said-done, said-count, said-truth, refused, Out, Judged, found, fails, placeIn, nextKey}
 use Rattle.table.specs.Sound.{Sound}
-use Rattle.table.specs.Sweeps.{Places, places, bars, placed, among, placesOf, given, disjoint}
+use Rattle.table.specs.Sweeps.{Places, places, bars, placed, placesOf, given, disjoint}
 use Rattle.table.specs.Steps.{Call, c-insert, step}
 use Rattle.table.proofs.Judged.{live}
 use Rattle.table.proofs.Refused.{insert-next-key}

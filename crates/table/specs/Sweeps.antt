@@ -1,10 +1,11 @@
 -- The calls over many elements: retain, clear, disjoint (the rules, section "The dense table"). Assumes nothing.
-use mathlib.Core.Bool.{Bool, true, false, cond}
+use mathlib.Core.Bool.{Bool, cond}
 use mathlib.Core.List.{List, [], _∷_}
 use Prim.Native.Nat.{ℕ, zero, suc, _+_}
-use lib.Dec.{leb, ltb, eqb}
+use lib.Dec.{leb, ltb}
 use lib.ListN.{length}
 use Rattle.lists.specs.Put.{put}
+use Rattle.lists.specs.Among.{among}
 use Rattle.keys.specs.Keys.{idx, version, asRead}
 use Rattle.rules.specs.declared.Rule.{Rule}
 use Rattle.rules.specs.Rules.{keepsOf}
@@ -51,11 +52,6 @@ abbrev pub placed : Judged → Places → Places
 placed (found p) (places ps) = places (p ∷ ps)
 placed (found p) (bars r) = bars r
 placed (fails r) rest = bars r
-
--- whether a number stands in a list
-unfoldable pub among : ℕ → List ℕ → Bool
-among k [] = false
-among k (j ∷ l) = cond (eqb k j) true (among k l)
 
 -- "judges keys in list order, each by 2 then 5"; 2 also where the key, as read, is among the earlier ones
 unfoldable pub placesOf : Table → List ℕ → List ℕ → Places

@@ -1,0 +1,15 @@
+pub mod Shaped
+pub mod Stands
+pub mod Seek
+pub mod Whole
+pub mod Keeps
+pub mod Grown
+pub mod Slots
+pub mod Fates
+pub mod Drains
+pub mod Cases
+pub mod Ways
+pub mod Wholes
+pub mod Elements
+pub mod Sieves
+pub mod Clears

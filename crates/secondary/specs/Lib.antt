@@ -1,0 +1,5 @@
+pub mod Map
+pub mod Calls
+pub mod Whole
+pub mod Sweeps
+pub mod Answers

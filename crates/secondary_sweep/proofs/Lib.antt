@@ -1,0 +1,4 @@
+pub mod Turns
+pub mod Marks
+pub mod Runs
+pub mod Gives
