@@ -1,6 +1,6 @@
 -- Rebuilding as the code does it: the records are read one after the other, and each is stored into the next slot. Assumes nothing.
 use mathlib.Core.Path.{_≡_, refl, sym, ap, _∙_, subst}
-use mathlib.Core.Bool.{true, false}
+use mathlib.Core.Bool.{true, false, cond}
 use mathlib.Core.List.{List, [], _∷_}
 use Prim.Native.Nat.{ℕ, suc, _+_, _-_, _≤_, _<_}
 use native.Mathlib.Nat.{sub-zero}
@@ -26,7 +26,7 @@ use Rattle.table.specs.Calls.{begins, cannot}
 use Rattle.table.specs.Thread.{nextFree}
 use Rattle.table.proofs.Shape.{Lengths}
 use Rattle.table.proofs.Shape as shape
-use Rattle.image.specs.Rebuild.{fitting, judgedImage, slotIn, isFull, isBare, verIn, linkIn, keyIn, valIn, rebuiltTo, rebuilt, rebuiltFrom, Arrays, arraysOf, rebuild}
+use Rattle.image.specs.Rebuild.{fitting, judgedImage, slotIn, isFull, isBare, verIn, linkIn, keyIn, valIn, rebuiltTo, rebuilt, rebuiltFrom, Arrays, arraysOf, begun, rebuild}
 use Rattle.image.proofs.Faults.{judgedAt, Ready, fitting-told, judged-refused, judged-ready}
 use Rattle.image.proofs.Slots.{first-full}
 use Rattle.image.proofs.Storing.{stored, stored-more, same-table, filled-few, lengths-to}
@@ -175,3 +175,12 @@ module _ (vs ls ks xs bytes : List ℕ) where
     pub rebuild-told : (t : Table) → tells t ≡ rebuiltFrom vs ls ks xs bytes → (begins (t .head), arraysOf t) ≡ rebuild vs ls ks xs bytes
     unfolding rebuild
     rebuild-told t e = rw (fit, ← e)
+
+-- a rebuild that is refused leaves the lists as they were
+pub rebuild-refused-keeps : (vs ls ks xs bytes : List ℕ) (k : ℕ) → rebuild vs ls ks xs bytes .0 ≡ cannot k → rebuild vs ls ks xs bytes .1 ≡ arrays vs ls ks xs
+unfolding rebuild
+rebuild-refused-keeps vs ls ks xs bytes k = kept (cond (lengthsFit vs ls ks xs) (rebuiltFrom vs ls ks xs bytes) (refused 1))
+  where
+    kept : (r : Told Table) → begun (arrays vs ls ks xs) r .0 ≡ cannot k → begun (arrays vs ls ks xs) r .1 ≡ arrays vs ls ks xs
+    kept (tells t) e = cc
+    kept (refused j) e = refl

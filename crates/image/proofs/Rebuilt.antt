@@ -5,12 +5,14 @@ use mathlib.Core.Logic.{by-cases, inl}
 use mathlib.Core.Bool.{true, false}
 use mathlib.Core.List.{List}
 use Prim.Native.Nat.{ℕ, suc, _+_, _-_, _%_, _^_, _≤_, _<_}
+use native.Mathlib.Nat.{zero-add}
 use native.Mathlib.Omega.{arith}
 use native.Mathlib.Decide.{ℕ-discrete}
 use lib.ListN.{length, getD}
 use Rattle.lists.specs.Count.{count}
+use Rattle.lists.specs.Put.{put}
 use Rattle.lists.specs.Listed.{listed, picked}
-use Rattle.lists.proofs.Put.{getD-put}
+use Rattle.lists.proofs.Put.{getD-put-in, getD-put-after}
 use Rattle.lists.proofs.Listed.{length-listed, getD-listed, length-picked, getD-picked, count-below, count-reaches}
 use Rattle.numbers.specs.Told.{tells}
 use Rattle.keys.specs.Keys.{W, idx, vsn, pack}
@@ -27,6 +29,13 @@ use Rattle.table.proofs.Orderly.{Orderly, sound, free-walk}
 use Rattle.image.specs.Rebuild.{fitting, slotIn, isFull, isBare, verIn, linkIn, keyIn, valIn, rebuiltTo, rebuilt}
 use Rattle.image.proofs.Slots.{by-record, first-full, first-bare, first-version, first-link, version-is, vacant-full, vacant-bare, vacant-link, vacant-version, occupied-full, occupied-bare, occupied-link, occupied-version, full-low, bare-low, full-is, bare-is, fitting-some, vacant-even, occupied-odd, fit-at, version-fits}
 use Rattle.image.proofs.Storing.{filled-few, lengths-to}
+
+-- what stands at the front of a list, and past it
+front : (b t : List ℕ) (i : ℕ) → i < length t → getD (put b 0 t) i 0 ≡ getD t i 0
+front b t i h = ap (λ (n : ℕ). getD (put b 0 t) n 0) (sym (zero-add i)) ∙ getD-put-in b 0 t i h (omega arith)
+
+past : (b t : List ℕ) (i n : ℕ) → length t ≡ n → n ≤ i → getD (put b 0 t) i 0 ≡ getD b i 0
+past b t i n e h = getD-put-after b 0 t i (omega arith) (omega arith)
 
 -- lists whose lengths fit, and an accepted list of records for them
 pub record Given (vs ls ks xs : List ℕ) (l : List Record) : Type 0 where
@@ -55,11 +64,11 @@ module _ (vs ls ks xs : List ℕ) (l : List Record) (g : Given vs ls ks xs l) wh
 
   pub ver-at : (i : ℕ) → i < length l → ver t i ≡ verIn l i
   unfolding rebuilt rebuiltTo
-  ver-at i h = getD-put vs (listed (verIn l) (length l)) i (omega (arith, length-listed (verIn l) (length l))) ∙ getD-listed (verIn l) (length l) i 0 h
+  ver-at i h = front vs (listed (verIn l) (length l)) i (omega (arith, length-listed (verIn l) (length l))) ∙ getD-listed (verIn l) (length l) i 0 h
 
   pub link-at : (i : ℕ) → i < length l → link t i ≡ linkIn l i
   unfolding rebuilt rebuiltTo
-  link-at i h = getD-put ls (listed (linkIn l) (length l)) i (omega (arith, length-listed (linkIn l) (length l))) ∙ getD-listed (linkIn l) (length l) i 0 h
+  link-at i h = front ls (listed (linkIn l) (length l)) i (omega (arith, length-listed (linkIn l) (length l))) ∙ getD-listed (linkIn l) (length l) i 0 h
 
   pub version-at : (i : ℕ) → 1 ≤ i → i < length l → ver t i ≡ versionOf (slotIn l i)
   version-at i low h = ver-at i h ∙ version-is l i low
@@ -68,13 +77,13 @@ module _ (vs ls ks xs : List ℕ) (l : List Record) (g : Given vs ls ks xs l) wh
     pub key-at : key t (count (isFull l) i) ≡ keyIn l i
     unfolding rebuilt rebuiltTo
     key-at =
-        getD-put ks (picked (isFull l) (keyIn l) (length l)) _ (omega (arith, length-picked (isFull l) (keyIn l) (length l), count-below (isFull l) (length l) i h f))
+        front ks (picked (isFull l) (keyIn l) (length l)) _ (omega (arith, length-picked (isFull l) (keyIn l) (length l), count-below (isFull l) (length l) i h f))
         ∙ getD-picked (isFull l) (keyIn l) (length l) i 0 h f
 
     pub val-at : val t (count (isFull l) i) ≡ valIn l i
     unfolding rebuilt rebuiltTo
     val-at =
-        getD-put xs (picked (isFull l) (valIn l) (length l)) _ (omega (arith, length-picked (isFull l) (valIn l) (length l), count-below (isFull l) (length l) i h f))
+        front xs (picked (isFull l) (valIn l) (length l)) _ (omega (arith, length-picked (isFull l) (valIn l) (length l), count-below (isFull l) (length l) i h f))
         ∙ getD-picked (isFull l) (valIn l) (length l) i 0 h f
 
     pub full-link : link t i ≡ count (isFull l) i
@@ -107,6 +116,24 @@ module _ (vs ls ks xs : List ℕ) (l : List Record) (g : Given vs ls ks xs l) wh
       by-record (slotIn l i)
       (λ v e. vacant-bare l i low v e)
       (λ v x e. absurd (omega (arith, ver-at i h, occupied-version l i low v x e, occupied-odd l (g .fits) i low h v x e)))
+
+  -- ---- "nothing beyond n and s is written"
+
+  pub version-past : (i : ℕ) → length l ≤ i → ver t i ≡ getD vs i 0
+  unfolding rebuilt rebuiltTo
+  version-past i h = past vs (listed (verIn l) (length l)) i (length l) (length-listed (verIn l) (length l)) h
+
+  pub link-past : (i : ℕ) → length l ≤ i → link t i ≡ getD ls i 0
+  unfolding rebuilt rebuiltTo
+  link-past i h = past ls (listed (linkIn l) (length l)) i (length l) (length-listed (linkIn l) (length l)) h
+
+  pub key-past : (p : ℕ) → t .head .n ≤ p → key t p ≡ getD ks p 0
+  unfolding rebuilt rebuiltTo
+  key-past p h = past ks (picked (isFull l) (keyIn l) (length l)) p (t .head .n) (length-picked (isFull l) (keyIn l) (length l)) h
+
+  pub value-past : (p : ℕ) → t .head .n ≤ p → val t p ≡ getD xs p 0
+  unfolding rebuilt rebuiltTo
+  value-past p h = past xs (picked (isFull l) (valIn l) (length l)) p (t .head .n) (length-picked (isFull l) (valIn l) (length l)) h
 
   -- ---- sound
 

@@ -8,6 +8,7 @@ use native.Mathlib.Nat.{zero-add}
 use native.Mathlib.Omega.{arith}
 use native.Mathlib.Numerals.{add-one}
 use native.Mathlib.Decide.{ℕ-discrete}
+use lib.Dec.{leb}
 use lib.ListN.{length, length-append}
 use Rattle.lists.specs.Listed.{listed}
 use Rattle.lists.specs.Put.{put}
@@ -19,11 +20,8 @@ use Rattle.numbers.specs.Numbers.{encoded}
 use Rattle.numbers.specs.Writing.{written}
 use Rattle.numbers.proofs.Told.{never, told, refused-same, both}
 use Rattle.numbers.proofs.Writing.{written-fits}
-use Rattle.numbers.proofs.Encoded.{length-bound}
 use Rattle.records.specs.declared.Record.{Record}
-use Rattle.records.specs.declared.Record.the-variants.{Vacant, Occupied}
-use Rattle.records.specs.Records.{recordBytes, listBytes, bytesOf, Fit}
-use Rattle.records.proofs.Records.{length-vacant, length-occupied}
+use Rattle.records.specs.Records.{recordBytes, listBytes, bytesOf}
 use Rattle.table.specs.Table.{Table, hasShape}
 use Rattle.table.specs.Sound.{isSound}
 use Rattle.table.proofs.Decides.{passes-shape}
@@ -70,11 +68,6 @@ module _ (t : Table) where
       (λ ne.
       let more : length (soFar t (suc m)) ≡ length (soFar t m ++ recordBytes (slotOf t m)) = ap length (rw (add-one m) at (so-far-more m)) in
       omega (arith, so-far-fewer i m (omega arith), length-append (soFar t m) (recordBytes (slotOf t m))))
-
--- a record of machine numbers has few bytes
-pub record-short : (r : Record) → Fit r → length (recordBytes r) ≤ 16
-record-short (Vacant v) f = omega (arith, length-vacant v, length-bound 4 v (omega (arith, f)))
-record-short (Occupied v x) f = omega (arith, length-occupied v x, length-bound 4 v (omega (arith, f .0)), length-bound 9 x (omega (arith, f .1)))
 
 -- where writing ended; at, if it was refused
 abbrev pub endOr : ℕ → Told ℕ → ℕ
@@ -144,3 +137,29 @@ module _ (t : Table) where
     pub write-told : (out : List ℕ) → written 0 (imageBytes t) out ≡ writeImage t out
     unfolding writeImage
     write-told out = let s = len-sound .0 in rw (passes-shape t s, s)
+
+-- ---- the length told is the length written
+
+module _ (t : Table) (out : List ℕ) where
+  pub length-written : (n : ℕ) → writeImage t out .0 ≡ tells n → imageLen t ≡ tells n
+  unfolding writeImage imageLen written
+  length-written n e =
+      split (hasShape t)
+      (λ h. split (isSound t)
+      (λ s. split (leb (0 + length (imageBytes t)) (length out))
+      (λ f. rw (h, s) (ap tells (sym (zero-add (length (imageBytes t))) ∙ told (rw (h, s, f) at e))))
+      (λ f. never (rw (h, s, f) at e)))
+      (λ s. never (rw (h, s) at e)))
+      (λ h. never (rw h at e))
+
+  -- writing that is refused leaves the buffer as it was
+  pub write-refused-keeps : (k : ℕ) → writeImage t out .0 ≡ refused k → writeImage t out .1 ≡ out
+  unfolding writeImage written
+  write-refused-keeps k e =
+      split (hasShape t)
+      (λ h. split (isSound t)
+      (λ s. split (leb (0 + length (imageBytes t)) (length out))
+      (λ f. never (sym (rw (h, s, f) at e)))
+      (λ f. rw (h, s, f)))
+      (λ s. rw (h, s)))
+      (λ h. rw h)

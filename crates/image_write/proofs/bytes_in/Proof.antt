@@ -5,10 +5,11 @@ use Prim.Native.Nat.{ℕ, _+_, _*_, _-_, _≤_}
 use native.Mathlib.Omega.{arith}
 use lib.ListN.{length}
 use Rattle.numbers.proofs.Encoded.{length-bound}
+use Rattle.records.proofs.Records.{length-record}
 use Rattle.table.proofs.Shape.{shape}
 use Rattle.table.proofs.Decides.{passes-shape}
 use Rattle.dense.specs.Lent.{table}
-use Rattle.image.proofs.Writing.{soFar, so-far-none, so-far-longer, so-far-all, record-short}
+use Rattle.image.proofs.Writing.{soFar, so-far-none, so-far-longer, so-far-all}
 use Rattle.image_write.proofs.bytes_in.Statement.{statement}
 use Rattle.image_write.proofs.bytes_in.Tie as tie
 
@@ -29,7 +30,7 @@ slot-record-requires c κs = (c .before .before .before .before .before .before 
 
 -- a slot's bytes
 few : (c : tie.After-record-len Inv-loop μ-loop) → c .record-len .result ≤ 16
-few c = omega (arith, record-short (c .before .slot-record .result) (c .before .slot-record .ensures .1), c .record-len .ensures)
+few c = omega (arith, length-record (c .before .slot-record .result) (c .before .slot-record .ensures .1), c .record-len .ensures)
 
 add-total : tie.Need-add-total Inv-loop μ-loop
 add-total c = omega (arith, few c, shape _ (passes-shape _ (c .before .before .before .before .before .before .before .before .before .before .before .pre)))
