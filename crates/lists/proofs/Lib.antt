@@ -4,4 +4,5 @@ pub mod Count
 pub mod Changes
 pub mod Once
 pub mod Put
+pub mod Listed
 pub mod Among

@@ -86,6 +86,16 @@ put-turn out text whole at i h l e =
 pub put-end : (out text whole : List ℕ) (at i : ℕ) → length text ≤ i → put out (at + i) (drop i text) ≡ whole → out ≡ whole
 put-end out text whole at i h e = sym (rw (drop-of-length-le text h) (put-nil out (at + i))) ∙ e
 
+-- ---- a text that grows at its end
+
+-- a byte after a text
+pub set-put : (b : List ℕ) (at : ℕ) (t : List ℕ) (x n : ℕ) → n ≡ at + length t → n < length b → set (put b at t) n x ≡ put b at (t ++ (x ∷ []))
+set-put b at t x n e h =
+    rw e
+    (sym (put-nil (set (put b at t) (at + length t) x) (at + length t + 1))
+    ∙ put-cons (put b at t) (at + length t) x [] (omega (arith, length-put b at t (omega arith)))
+    ∙ put-put b at t (x ∷ []) (omega arith))
+
 -- ---- what stands in the buffer
 
 pub getD-put-before : (b : List ℕ) (at : ℕ) (t : List ℕ) (i : ℕ) → i < at → at ≤ length b → getD (put b at t) i 0 ≡ getD b i 0

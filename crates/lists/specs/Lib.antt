@@ -1,3 +1,4 @@
 pub mod Count
 pub mod Put
+pub mod Listed
 pub mod Among

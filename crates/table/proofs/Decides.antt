@@ -4,7 +4,7 @@ use mathlib.Core.Path.{_≡_, sym, ap, _∙_}
 use mathlib.Core.Logic.{_≢_, _⊎_, inl, inr, by-cases, ⊎-elim, _↔_}
 use mathlib.Core.Bool.{true, not}
 use mathlib.Core.List.{List, List·Memᴰ, Memᴰ·cast}
-use Prim.Native.Nat.{ℕ, _≤_, _<_}
+use Prim.Native.Nat.{ℕ, _%_, _≤_, _<_}
 use native.Mathlib.Omega.{arith}
 use native.Mathlib.Nat.{le-antisymm}
 use native.Mathlib.Decide.{ℕ-discrete}
@@ -91,6 +91,15 @@ record Passed (t : Table) : Type 0 where
 passed : (t : Table) → isSound t ≡ true → Passed t
 unfolding isSound
 passed t h = search parts depth 9
+
+-- a checked table's odd slots link to places
+pub passes-odds : (t : Table) → isSound t ≡ true → (i : ℕ) → i < t .head .s → ver t i % 2 ≡ 1 → link t i < t .head .n
+passes-odds t h i b o =
+    let c = passed t h in
+    odds-from t (λ p l. true-home t p (every-at (isHome t) (t .head .n) (c .home) p l)) (c .odd) i b o .0
+
+pub passes-shape : (t : Table) → isSound t ≡ true → hasShape t ≡ true
+passes-shape t h = passed t h .shape
 
 module _ (t : Table) (words : (i : ℕ) → i < t .head .s → ver t i < W) where
   pub passes-sound : isSound t ≡ true → Sound t

@@ -33,4 +33,5 @@ pub mod Reissue
 pub mod Checking
 pub mod Listed
 pub mod Chained
+pub mod Thread
 pub mod Marking

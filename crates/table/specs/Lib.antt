@@ -4,3 +4,4 @@ pub mod Sound
 pub mod Sweeps
 pub mod Steps
 pub mod Reading
+pub mod Thread

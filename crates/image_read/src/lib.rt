@@ -1,0 +1,174 @@
+// The slot image read: its faults, and a table rebuilt from it over lent arrays. The Rust's `dense.rs`, deserialize.
+ghost use mathlib.Core.Path.{_≡_};
+ghost use Rattle.numbers.specs.Told.{tells};
+ghost use Rattle.records.specs.Summaries.{judgementOf};
+ghost use Rattle.dense.specs.Lent.{table, before, after};
+ghost use Rattle.dense.specs.Answers.{begunOf};
+ghost use Rattle.image.specs.Rebuild.{firstWrong, judgedCounts, rebuiltFrom, rebuild};
+ghost use Rattle.image.proofs.Faults.{judgedAt};
+ghost use Rattle.image.proofs.Storing.{stored};
+ghost use Rattle.image.proofs.Building.{Room, Starts};
+ghost use Rattle.image_read.specs.Answers.{countsOf, outcome};
+use dense::Started;
+use dense::lengths_fit;
+use keys::KeyData;
+use keys::is_odd;
+use records::Judged;
+use records::Record;
+use records::RecordRead;
+use refusal::Refusal;
+use table::Header;
+
+// How many slots an image has, and how many of them are occupied.
+pub enum Counts {
+    Slots { count: u32, live: u32 },
+    Refused(Refusal),
+}
+
+// ---- the faults
+
+// Whether a first record of this version and presence is wrong.
+fn first_wrong(version: u32, presence: u32) -> bool
+    ensures { λ r. ⌜ r ≡ firstWrong version presence ⌝ }
+{
+    is_odd(version)
+}
+
+// Judges a whole image of at most `most` slots: the faults of its records, then the first record, then the others' occupation.
+fn judge(bytes: &[u8], most: usize) -> Judged
+    ensures { λ r. ⌜ judgementOf r ≡ judgedAt (now (bytes .entry)) most ⌝ }
+{
+    match records::judge_records(bytes, most) {
+        Judged::Refused(why) => Judged::Refused(why),
+        Judged::Fine { from, summary } => {
+            if summary.count == 0 {
+                return Judged::Refused(Refusal::First);
+            }
+            if first_wrong(summary.version, summary.presence) {
+                return Judged::Refused(Refusal::First);
+            }
+            if summary.wrong != 0 {
+                return Judged::Refused(Refusal::Occupation);
+            }
+            Judged::Fine { from, summary }
+        }
+    }
+}
+
+// Whether a table of at most `most` slots can be rebuilt from an image, and how large it will be.
+pub fn judge_image(bytes: &[u8], most: usize) -> Counts
+    ensures { λ r. ⌜ countsOf r ≡ judgedCounts (now (bytes .entry)) most ⌝ }
+{
+    match judge(bytes, most) {
+        Judged::Refused(why) => Counts::Refused(why),
+        Judged::Fine { from: _, summary } => Counts::Slots {
+            count: summary.count,
+            live: summary.live,
+        },
+    }
+}
+
+// ---- rebuilding
+
+// Stores a record into the next slot. The header says what has been stored: the places filled, the slots, and the next-free number.
+// Slot 0 becomes version 0, link 0, whatever its record has.
+fn store_record(
+    h: Header,
+    versions: &mut [u32],
+    links: &mut [u32],
+    keys: &mut [u64],
+    values: &mut [u64],
+    slot: Record,
+) -> Header
+    requires { ⌜ Room (table (now versions) (now links) (now keys) (now values) h) ⌝ }
+    ensures { λ r. ⌜ after versions links keys values r ≡ stored (before versions links keys values h) slot ⌝ }
+{
+    if h.s == 0 {
+        versions[0] = 0;
+        links[0] = 0;
+        return Header {
+            n: h.n,
+            s: 1,
+            f: h.f,
+        };
+    }
+    let i = h.s as usize;
+    match slot {
+        Record::Vacant { version } => {
+            versions[i] = version;
+            links[i] = h.f;
+            Header {
+                n: h.n,
+                s: h.s + 1,
+                f: h.s,
+            }
+        }
+        Record::Occupied { version, value } => {
+            versions[i] = version;
+            links[i] = h.n;
+            let p = h.n as usize;
+            keys[p] = KeyData::new(h.s, version).as_ffi();
+            values[p] = value;
+            Header {
+                n: h.n + 1,
+                s: h.s + 1,
+                f: h.f,
+            }
+        }
+    }
+}
+
+// Stores the records of an accepted image, from a place on.
+fn store_records(
+    versions: &mut [u32],
+    links: &mut [u32],
+    keys: &mut [u64],
+    values: &mut [u64],
+    bytes: &[u8],
+    from: usize,
+    total: u32,
+) -> Header
+    requires { ⌜ Starts (now versions) (now links) (now keys) (now values) (now bytes) from total ⌝ }
+    ensures { λ r. ⌜ tells (after versions links keys values r) ≡ rebuiltFrom (now (versions .entry)) (now (links .entry)) (now (keys .entry)) (now (values .entry)) (now (bytes .entry)) ⌝ }
+{
+    let mut h = Header {
+        n: 0,
+        s: 0,
+        f: total,
+    };
+    let mut at = from;
+    while h.s < total {
+        match records::read_record(bytes, at) {
+            RecordRead::Refused(_) => {
+                return h;
+            }
+            RecordRead::Read { slot, next } => {
+                h = store_record(h, versions, links, keys, values, slot);
+                at = next;
+            }
+        }
+    }
+    h
+}
+
+// Rebuilds a table over lent arrays, whatever they hold. The whole image is judged before the first store.
+pub fn rebuild(
+    versions: &mut [u32],
+    links: &mut [u32],
+    keys: &mut [u64],
+    values: &mut [u64],
+    bytes: &[u8],
+) -> Started
+    ensures { λ r. ⌜ outcome (begunOf r) versions links keys values ≡ rebuild (now (versions .entry)) (now (links .entry)) (now (keys .entry)) (now (values .entry)) (now (bytes .entry)) ⌝ }
+{
+    if !lengths_fit(versions, links, keys, values) {
+        return Started::Refused(Refusal::Shape);
+    }
+    match judge(bytes, keys.len() + 1) {
+        Judged::Refused(why) => Started::Refused(why),
+        Judged::Fine { from, summary } => {
+            let total = summary.count;
+            Started::With(store_records(versions, links, keys, values, bytes, from, total))
+        }
+    }
+}
