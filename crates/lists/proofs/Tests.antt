@@ -21,6 +21,11 @@ pub either {ℓ κ} : {A : Type ℓ} (P : A → Type κ) (b : Bool) (x y : A) �
 either P true x y p q = p
 either P false x y p q = q
 
+-- the same, where which case it is may be used
+pub picked {ℓ κ} : {A : Type ℓ} (P : A → Type κ) (b : Bool) (x y : A) → (b ≡ true → P x) → (b ≡ false → P y) → P (cond b x y)
+picked P true x y p q = p refl
+picked P false x y p q = q refl
+
 pub true-false {ℓ} : {A : Type ℓ} {b : Bool} → b ≡ true → b ≡ false → A
 true-false p q = let z : _≡_ {A = ℕ} 0 1 = cc in absurd (omega arith)
 
