@@ -1,0 +1,46 @@
+-- The header and the arrays are those of the call's own contract. Assumes nothing.
+use mathlib.Core.Path.{ap}
+use Rattle.table.specs.Calls.{Out}
+use borrow.Author.Needs.{needs}
+use Rattle.told.proofs.detach.Statement.{statement}
+use Rattle.told.proofs.detach.Tie as tie
+
+-- src/rt:68:9
+detach-requires : tie.Need-detach-requires
+detach-requires c κs = search needs
+
+-- src/rt:70:5
+found-requires : tie.Need-found-requires
+found-requires c κs = search needs
+
+-- src/rt:58:1
+same-length : tie.Need-same-length
+same-length c = search needs
+
+-- src/rt:58:1
+same-length-2 : tie.Need-same-length-2
+same-length-2 c = search needs
+
+-- src/rt:58:1
+same-length-3 : tie.Need-same-length-3
+same-length-3 c = search needs
+
+-- src/rt:58:1
+same-length-4 : tie.Need-same-length-4
+same-length-4 c = search needs
+
+-- src/rt:58:1
+returns : tie.Need-returns
+returns c = ap (λ (o : Out). o .1) (c .before .before .before .before .before .before .before .before .before .before .detach .ensures)
+
+pub detach-spec : {M : Type 1} → statement M
+detach-spec =
+    tie.close
+    (tie.spec
+    detach-requires
+    found-requires
+    same-length
+    same-length-2
+    same-length-3
+    same-length-4
+    returns)
