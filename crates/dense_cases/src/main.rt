@@ -1,10 +1,7 @@
-// Situations of the dense table that are easy to get wrong, each run through the real arrays. The remarks of standard input say what the rules
-// give, one before each situation; the lines after a remark are what the calls answer.
+// Situations of the dense table that are easy to get wrong, each run through the real arrays: the limits, and the calls that only look.
+// The remarks of standard input say what the rules give, one before each situation; the lines after a remark are what the calls answer.
 mod edges;
-mod enter;
-mod leave;
 mod reads;
-mod sweep;
 
 use keys::KeyData;
 
@@ -20,7 +17,4 @@ pub fn key(index: u32, version: u32) -> u64 {
 fn main() {
     edges::run();
     reads::run();
-    enter::run();
-    leave::run();
-    sweep::run();
 }

@@ -1,5 +1,8 @@
 // What the programs print: each answer of a call, and a whole table, as a line on standard output.
 // A refusal is `refused ` and the rules' number; keys print as they do in the script.
+ghost use mathlib.Core.Path.{_≡_};
+ghost use Prim.Native.Nat.{min};
+ghost use lib.ListN.{length};
 ghost use Rattle.io.specs.Counts.{Counts};
 
 mod lists;
@@ -12,6 +15,7 @@ use dense::Tested;
 use dense::Verdict;
 use dense_leave::Drained;
 use keys::KeyData;
+pub use lists::first_hexes;
 pub use lists::hexes;
 pub use lists::numbers;
 pub use lists::state;
@@ -66,8 +70,9 @@ pub fn hex(byte: u8) {
 }
 
 // A place in a text, or the text's end where it lies behind.
-fn within(text: &[u8], end: usize) -> usize
+pub fn within(text: &[u8], end: usize) -> usize
     ensures { λ r. ⌜ Counts r (now (text .entry)) ⌝ }
+    ensures { λ r. ⌜ r ≡ min end (length (now (text .entry))) ⌝ }
 {
     if end < text.len() { end } else { text.len() }
 }

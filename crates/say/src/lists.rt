@@ -3,6 +3,7 @@ use crate::bytes;
 use crate::header;
 use crate::hex;
 use crate::number;
+use crate::within;
 use table::Header;
 
 fn spaced(value: u64) {
@@ -47,6 +48,12 @@ pub fn hexes(list: &[u8]) {
         i += 1;
     }
     bytes(b"\n");
+}
+
+// The first bytes of a list, up to a place.
+pub fn first_hexes(list: &[u8], end: usize) {
+    let n = within(list, end);
+    hexes(&list[..n]);
 }
 
 // A whole table: its header and its four arrays, past n and s too.

@@ -1,17 +1,6 @@
 // Situations of the secondary map, each run through the real arrays. The remarks of standard input say what the rules give, one before each
 // situation; the lines after a remark are what the calls answer.
-mod calls;
-
-use calls::drained;
-use calls::found;
-use calls::inserted;
-use calls::key;
-use calls::looked;
-use calls::removed;
-use calls::retained;
-use calls::started;
-use calls::state;
-use calls::swept;
+use keys::KeyData;
 use rules::Rule;
 use secondary::MapHeader;
 use secondary::is_whole;
@@ -19,6 +8,15 @@ use secondary::lookup;
 use secondary_edit::fresh;
 use secondary_edit::put;
 use secondary_sweep::disjoint;
+
+// The number of a key: the version's lowest bit is as given.
+fn key(index: u32, version: u32) -> u64 {
+    let data = KeyData {
+        idx: index,
+        version,
+    };
+    data.as_ffi()
+}
 
 fn main() {
     lengths();
@@ -40,17 +38,17 @@ fn lengths() {
     say::remark();
     let mut none = [0u32; 0];
     let no_values = [0u64; 0];
-    started(fresh(&mut none, &no_values));
+    told_secondary::started(fresh(&mut none, &no_values));
     let mut many = [9u32; 4098];
     let many_values = [0u64; 4098];
-    started(fresh(&mut many, &many_values));
+    told_secondary::started(fresh(&mut many, &many_values));
     let mut one = [9u32];
     let mut one_value = [9u64];
-    started(fresh(&mut one, &many_values));
-    started(fresh(&mut one, &one_value));
+    told_secondary::started(fresh(&mut one, &many_values));
+    told_secondary::started(fresh(&mut one, &one_value));
     let h = MapHeader { s: 1, count: 0 };
-    state(
-        inserted(h, &mut one, &mut one_value, key(1, 1), 7),
+    told_secondary::state(
+        told_secondary::insert(h, &mut one, &mut one_value, key(1, 1), 7),
         &one,
         &one_value,
     );
@@ -61,10 +59,10 @@ fn largest() {
     let mut versions = [0u32; 4097];
     let mut values = [0u64; 4097];
     let h = MapHeader { s: 1, count: 0 };
-    let a = inserted(h, &mut versions, &mut values, key(4096, 1), 7);
-    inserted(a, &mut versions, &mut values, key(4097, 1), 7);
+    let a = told_secondary::insert(h, &mut versions, &mut values, key(4096, 1), 7);
+    told_secondary::insert(a, &mut versions, &mut values, key(4097, 1), 7);
     say::pair(a.s as u64, a.count as u64);
-    found(lookup(a, &versions, &values, key(4096, 1)));
+    told_secondary::got(lookup(a, &versions, &values, key(4096, 1)));
 }
 
 fn four_answers() {
@@ -72,12 +70,12 @@ fn four_answers() {
     let mut versions = [0u32; 4];
     let mut values = [0u64; 4];
     let h = MapHeader { s: 1, count: 0 };
-    let a = inserted(h, &mut versions, &mut values, key(2, 3), 7);
-    let b = inserted(a, &mut versions, &mut values, key(2, 2), 8);
-    let c = inserted(b, &mut versions, &mut values, key(2, 1), 9);
-    let d = inserted(c, &mut versions, &mut values, key(2, 5), 10);
-    let e = inserted(d, &mut versions, &mut values, key(4294967295, 5), 11);
-    state(e, &versions, &values);
+    let a = told_secondary::insert(h, &mut versions, &mut values, key(2, 3), 7);
+    let b = told_secondary::insert(a, &mut versions, &mut values, key(2, 2), 8);
+    let c = told_secondary::insert(b, &mut versions, &mut values, key(2, 1), 9);
+    let d = told_secondary::insert(c, &mut versions, &mut values, key(2, 5), 10);
+    let e = told_secondary::insert(d, &mut versions, &mut values, key(4294967295, 5), 11);
+    told_secondary::state(e, &versions, &values);
 }
 
 fn grows() {
@@ -85,8 +83,8 @@ fn grows() {
     let mut versions = [0u32, 9, 9, 3, 9];
     let mut values = [50u64, 51, 52, 53, 54];
     let h = MapHeader { s: 1, count: 0 };
-    state(
-        inserted(h, &mut versions, &mut values, key(3, 3), 7),
+    told_secondary::state(
+        told_secondary::insert(h, &mut versions, &mut values, key(3, 3), 7),
         &versions,
         &values,
     );
@@ -97,13 +95,13 @@ fn refused_inserts() {
     let mut versions = [0u32; 2];
     let mut values = [0u64; 2];
     let h = MapHeader { s: 1, count: 0 };
-    inserted(h, &mut versions, &mut values, key(0, 1), 7);
-    inserted(h, &mut versions, &mut values, key(2, 1), 7);
+    told_secondary::insert(h, &mut versions, &mut values, key(0, 1), 7);
+    told_secondary::insert(h, &mut versions, &mut values, key(2, 1), 7);
     let mut short = [0u64];
-    inserted(h, &mut versions, &mut short, key(4294967295, 1), 7);
+    told_secondary::insert(h, &mut versions, &mut short, key(4294967295, 1), 7);
     let past = MapHeader { s: 3, count: 0 };
-    state(
-        inserted(past, &mut versions, &mut values, key(1, 1), 7),
+    told_secondary::state(
+        told_secondary::insert(past, &mut versions, &mut values, key(1, 1), 7),
         &versions,
         &values,
     );
@@ -114,9 +112,9 @@ fn counts_up() {
     let mut versions = [0u32, 0, 1];
     let mut values = [0u64, 0, 5];
     let h = MapHeader { s: 3, count: 2 };
-    let a = inserted(h, &mut versions, &mut values, key(1, 1), 7);
-    let b = inserted(a, &mut versions, &mut values, key(2, 1), 8);
-    state(b, &versions, &values);
+    let a = told_secondary::insert(h, &mut versions, &mut values, key(1, 1), 7);
+    let b = told_secondary::insert(a, &mut versions, &mut values, key(2, 1), 8);
+    told_secondary::state(b, &versions, &values);
 }
 
 fn slot_zero() {
@@ -124,9 +122,9 @@ fn slot_zero() {
     let versions = [1u32, 0];
     let mut values = [7u64, 0];
     let h = MapHeader { s: 2, count: 1 };
-    found(lookup(h, &versions, &values, key(0, 1)));
-    found(put(h, &versions, &mut values, key(0, 1), 8));
-    found(lookup(h, &versions, &values, key(1, 1)));
+    told_secondary::got(lookup(h, &versions, &values, key(0, 1)));
+    told_secondary::got(put(h, &versions, &mut values, key(0, 1), 8));
+    told_secondary::got(lookup(h, &versions, &values, key(1, 1)));
     say::truth(is_whole(h, &versions, &values));
 }
 
@@ -135,8 +133,8 @@ fn even_version() {
     let versions = [0u32, 4];
     let values = [0u64, 7];
     let h = MapHeader { s: 2, count: 1 };
-    looked(h, &versions, &values, 0);
-    found(lookup(h, &versions, &values, key(1, 4)));
+    told_secondary::peek(h, &versions, &values, 0);
+    told_secondary::got(lookup(h, &versions, &values, key(1, 4)));
     say::truth(is_whole(h, &versions, &values));
 }
 
@@ -145,9 +143,9 @@ fn removes() {
     let mut versions = [0u32, 3, 5];
     let values = [0u64, 7, 8];
     let h = MapHeader { s: 3, count: 2 };
-    let a = removed(h, &mut versions, &values, key(1, 3));
-    let b = removed(a, &mut versions, &values, key(1, 3));
-    state(b, &versions, &values);
+    let a = told_secondary::remove(h, &mut versions, &values, key(1, 3));
+    let b = told_secondary::remove(a, &mut versions, &values, key(1, 3));
+    told_secondary::state(b, &versions, &values);
     say::truth(is_whole(b, &versions, &values));
 }
 
@@ -156,12 +154,12 @@ fn drains() {
     let mut versions = [0u32, 0, 3, 5];
     let values = [0u64, 6, 7, 8];
     let h = MapHeader { s: 4, count: 2 };
-    looked(h, &versions, &values, 0);
-    let a = drained(h, &mut versions, &values, 0);
-    let b = drained(a, &mut versions, &values, 3);
-    let c = drained(b, &mut versions, &values, 4);
-    let d = drained(c, &mut versions, &values, 4294967295);
-    state(d, &versions, &values);
+    told_secondary::peek(h, &versions, &values, 0);
+    let a = told_secondary::drain_step(h, &mut versions, &values, 0);
+    let b = told_secondary::drain_step(a, &mut versions, &values, 3);
+    let c = told_secondary::drain_step(b, &mut versions, &values, 4);
+    let d = told_secondary::drain_step(c, &mut versions, &values, 4294967295);
+    told_secondary::state(d, &versions, &values);
 }
 
 fn counts_down() {
@@ -169,10 +167,10 @@ fn counts_down() {
     let mut versions = [0u32, 1];
     let values = [0u64, 7];
     let h = MapHeader { s: 2, count: 0 };
-    let a = removed(h, &mut versions, &values, key(1, 1));
-    let b = drained(a, &mut versions, &values, 1);
-    let c = drained(b, &mut versions, &values, 2);
-    state(c, &versions, &values);
+    let a = told_secondary::remove(h, &mut versions, &values, key(1, 1));
+    let b = told_secondary::drain_step(a, &mut versions, &values, 1);
+    let c = told_secondary::drain_step(b, &mut versions, &values, 2);
+    told_secondary::state(c, &versions, &values);
 }
 
 fn retains() {
@@ -181,12 +179,16 @@ fn retains() {
     let values = [0u64, 6, 7, 8];
     let bent = MapHeader { s: 4, count: 2 };
     let rule = Rule::Values { lo: 7, hi: 8 };
-    let a = retained(bent, &mut versions, &values, rule);
-    swept(a, &mut versions, &values);
+    let a = told_secondary::retain(bent, &mut versions, &values, rule);
+    told_secondary::clear(a, &mut versions, &values);
     let h = MapHeader { s: 4, count: 3 };
-    let b = retained(h, &mut versions, &values, rule);
-    state(b, &versions, &values);
-    state(swept(b, &mut versions, &values), &versions, &values);
+    let b = told_secondary::retain(h, &mut versions, &values, rule);
+    told_secondary::state(b, &versions, &values);
+    told_secondary::state(
+        told_secondary::clear(b, &mut versions, &values),
+        &versions,
+        &values,
+    );
 }
 
 fn places() {
@@ -196,12 +198,12 @@ fn places() {
     let h = MapHeader { s: 3, count: 2 };
     let both = [key(2, 3), key(1, 1)];
     let mut out = [90u32; 3];
-    calls::answered(disjoint(h, &mut versions, &values, &both, &mut out));
+    told_secondary::swept(disjoint(h, &mut versions, &values, &both, &mut out));
     say::words(&out);
     let twice = [key(2, 3), key(2, 2)];
-    calls::answered(disjoint(h, &mut versions, &values, &twice, &mut out));
+    told_secondary::swept(disjoint(h, &mut versions, &values, &twice, &mut out));
     let mut short = [90u32; 1];
-    calls::answered(disjoint(h, &mut versions, &values, &both, &mut short));
+    told_secondary::swept(disjoint(h, &mut versions, &values, &both, &mut short));
     say::words(&short);
     say::words(&versions);
 }

@@ -1,5 +1,8 @@
-// The calls of the secondary map, with their answers printed.
-use keys::KeyData;
+// The calls that change a secondary map, with each answer printed as a line: for programs that tell what they do. Each hands back the header.
+ghost use mathlib.Core.Path.{_≡_};
+ghost use Rattle.secondary.specs.Answers.{before, after};
+ghost use Rattle.secondary.specs.Calls.{insert, remove, drain};
+ghost use Rattle.secondary.specs.Sweeps.{retain, clear};
 use rules::Rule;
 use secondary::Got;
 use secondary::MapHeader;
@@ -8,16 +11,7 @@ use secondary_edit::Begun;
 use secondary_edit::Inserted;
 use secondary_sweep::Swept;
 
-// The number of a key: the version's lowest bit is as given.
-pub fn key(index: u32, version: u32) -> u64 {
-    let data = KeyData {
-        idx: index,
-        version,
-    };
-    data.as_ffi()
-}
-
-fn header(h: MapHeader) {
+pub fn header(h: MapHeader) {
     say::bytes(b"s=");
     say::number(h.s as u64);
     say::bytes(b" count=");
@@ -40,14 +34,14 @@ pub fn started(answer: Begun) {
     }
 }
 
-pub fn found(answer: Got) {
+pub fn got(answer: Got) {
     match answer {
         Got::Value(value) => say::number_line(value),
         Got::Refused(why) => say::refused(why),
     }
 }
 
-pub fn answered(answer: Swept) {
+pub fn swept(answer: Swept) {
     match answer {
         Swept::Done => say::line(b"ok"),
         Swept::Refused(why) => say::refused(why),
@@ -83,47 +77,51 @@ fn element(key: u64, value: u64, next: u32) {
     say::pair(value, next as u64);
 }
 
-pub fn inserted(
-    h: MapHeader,
-    versions: &mut [u32],
-    values: &mut [u64],
-    k: u64,
-    x: u64,
-) -> MapHeader {
+pub fn insert(h: MapHeader, versions: &mut [u32], values: &mut [u64], k: u64, x: u64) -> MapHeader
+    ensures { λ r. ⌜ after versions values r ≡ (insert (before versions values h) k x) .1 ⌝ }
+{
     let r = secondary_edit::insert(h, versions, values, k, x);
     let answer = r.answer;
     stored(answer);
     r.header
 }
 
-pub fn removed(h: MapHeader, versions: &mut [u32], values: &[u64], k: u64) -> MapHeader {
+pub fn remove(h: MapHeader, versions: &mut [u32], values: &[u64], k: u64) -> MapHeader
+    ensures { λ r. ⌜ after versions values r ≡ (remove (before versions values h) k) .1 ⌝ }
+{
     let r = secondary_edit::remove(h, versions, values, k);
     let answer = r.answer;
-    found(answer);
+    got(answer);
     r.header
 }
 
-pub fn drained(h: MapHeader, versions: &mut [u32], values: &[u64], place: u32) -> MapHeader {
+pub fn drain_step(h: MapHeader, versions: &mut [u32], values: &[u64], place: u32) -> MapHeader
+    ensures { λ r. ⌜ after versions values r ≡ (drain (before versions values h) place) .1 ⌝ }
+{
     let r = secondary_edit::drain_step(h, versions, values, place);
     let answer = r.answer;
     stepped(answer);
     r.header
 }
 
-pub fn looked(h: MapHeader, versions: &[u32], values: &[u64], place: u32) {
+pub fn peek(h: MapHeader, versions: &[u32], values: &[u64], place: u32) {
     stepped(secondary::peek(h, versions, values, place));
 }
 
-pub fn retained(h: MapHeader, versions: &mut [u32], values: &[u64], rule: Rule) -> MapHeader {
+pub fn retain(h: MapHeader, versions: &mut [u32], values: &[u64], rule: Rule) -> MapHeader
+    ensures { λ r. ⌜ after versions values r ≡ (retain (before versions values h) rule) .1 ⌝ }
+{
     let r = secondary_sweep::retain(h, versions, values, rule);
     let answer = r.answer;
-    answered(answer);
+    swept(answer);
     r.header
 }
 
-pub fn swept(h: MapHeader, versions: &mut [u32], values: &[u64]) -> MapHeader {
+pub fn clear(h: MapHeader, versions: &mut [u32], values: &[u64]) -> MapHeader
+    ensures { λ r. ⌜ after versions values r ≡ (clear (before versions values h)) .1 ⌝ }
+{
     let r = secondary_sweep::clear(h, versions, values);
     let answer = r.answer;
-    answered(answer);
+    swept(answer);
     r.header
 }
