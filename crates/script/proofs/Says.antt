@@ -1,13 +1,12 @@
 -- Texts after texts in a buffer, and how long the line of an answer is. Assumes nothing.
 use mathlib.Core.Path.{_≡_, refl, sym, ap, ap₂, _∙_}
-use mathlib.Core.Bool.{cond, true, false}
+use mathlib.Core.Bool.{true, false}
 use mathlib.Core.List.{List, [], _∷_, _++_}
 use Prim.Native.Nat.{ℕ, _+_, _^_, _≤_, _<_, _/_}
 use native.Mathlib.Omega.{arith}
-use native.Mathlib.Nat.{zero-add, add-assoc}
 use lib.ListN.{length, length-append}
-use lib.Dec.{leb, ltb}
-use borrow.Author.Tests.{le-leb, lt-leb}
+use lib.Dec.{leb}
+use borrow.Author.Tests.{leb-true, le-leb}
 use Rattle.lists.specs.Put.{put}
 use Rattle.lists.proofs.Put.{put-put, length-put}
 use Rattle.lists.proofs.Tests.{split}
@@ -122,81 +121,81 @@ key-short k =
 
 -- ---- an answer's line
 
-pub spoken-short : (a : Said) (b : List ℕ) → length b < room → _≡_ {A = Told × List ℕ} (refused 6, b) (spoken a b)
+pub spoken-short : (a : Said) (at : ℕ) (b : List ℕ) → leb (at + room) (length b) ≡ false → _≡_ {A = Told × List ℕ} (refused 6, b) (spoken a at b)
 unfolding spoken
-spoken-short a b h = rw (lt-leb room (length b) h)
+spoken-short a at b h = rw h
 
-pub spoken-fits : (a : Said) (b : List ℕ) → room ≤ length b → spoken a b ≡ (ends-at (length (lineOut a)), put b 0 (lineOut a))
+pub spoken-fits : (a : Said) (at : ℕ) (b : List ℕ) → leb (at + room) (length b) ≡ true → spoken a at b ≡ (ends-at (at + length (lineOut a)), put b at (lineOut a))
 unfolding spoken
-spoken-fits a b h = rw (le-leb room (length b) h)
+spoken-fits a at b h = rw h
 
--- the answer's text and the newline after it are the answer's line
-pub says : (a : Said) (b d : List ℕ) (w : Told) → room ≤ length b → length (lineOut a) ≤ room → _≡_ {A = Told × List ℕ} (w, d) (written 0 (answerText a) b)
-    → thenTold w (newline ∷ []) d ≡ spoken a b
-unfolding lineOut
-says a b d w h l e =
-    then-fits 0 (answerText a) (newline ∷ []) b d w (omega (arith, zero-add (length (lineOut a)))) e
-    ∙ written-is 0 (lineOut a) b (omega (arith, zero-add (length (lineOut a))))
-    ∙ ap (λ (n : ℕ). ended n (put b 0 (lineOut a))) (zero-add (length (lineOut a)))
-    ∙ sym (spoken-fits a b h)
+-- b is the buffer before, d the buffer after the answer's text
+module _ (at : ℕ) (b d : List ℕ) (w : Told) (fits : leb (at + room) (length b) ≡ true) where
+  -- the answer's text and the newline after it are the answer's line
+  says : (s : Said) → length (lineOut s) ≤ room → _≡_ {A = Told × List ℕ} (w, d) (written at (answerText s) b) → thenTold w (newline ∷ []) d ≡ spoken s at b
+  unfolding lineOut
+  says s l e =
+      then-fits at (answerText s) (newline ∷ []) b d w enough e ∙ written-is at (lineOut s) b enough ∙ sym (spoken-fits s at b fits)
+    where
+      enough : at + length (lineOut s) ≤ length b
+      enough = omega (arith, leb-true (at + room) (length b) fits)
 
--- the same by the kind of answer; b is the buffer before, d the buffer after the text
-module _ (b d : List ℕ) (w : Told) {a : Answer} (fits : room ≤ length b) where
-  pub says-key : {k : ℕ} {key : KeyData} → a ≡ Key k → key ≡ keyOf k → _≡_ {A = Told × List ℕ} (w, d) (written 0 (keyText key) b)
-      → thenTold w (newline ∷ []) d ≡ spoken (answerSaid a) b
-  unfolding answerText
-  says-key {k} e f g = rw e (says (said-key k) b d w fits (key-short k) (rw f at g))
+  -- the same by the kind of answer
+  module _ {a : Answer} where
+    pub says-key : {k : ℕ} {key : KeyData} → a ≡ Key k → key ≡ keyOf k → _≡_ {A = Told × List ℕ} (w, d) (written at (keyText key) b)
+        → thenTold w (newline ∷ []) d ≡ spoken (answerSaid a) at b
+    unfolding answerText
+    says-key {k} e f g = rw e (says (said-key k) (key-short k) (rw f at g))
 
-  pub says-value : {x : ℕ} → a ≡ Value x → x < 2 ^ 64 → _≡_ {A = Told × List ℕ} (w, d) (written 0 (decimal x) b)
-      → thenTold w (newline ∷ []) d ≡ spoken (answerSaid a) b
-  unfolding answerText
-  says-value {x} e h g = rw e (says (said-value x) b d w fits (value-short x h) g)
+    pub says-value : {x : ℕ} → a ≡ Value x → x < 2 ^ 64 → _≡_ {A = Told × List ℕ} (w, d) (written at (decimal x) b)
+        → thenTold w (newline ∷ []) d ≡ spoken (answerSaid a) at b
+    unfolding answerText
+    says-value {x} e h g = rw e (says (said-value x) (value-short x h) g)
 
-  pub says-count : {m : ℕ} → a ≡ Count m → m < 2 ^ 64 → _≡_ {A = Told × List ℕ} (w, d) (written 0 (decimal m) b)
-      → thenTold w (newline ∷ []) d ≡ spoken (answerSaid a) b
-  unfolding answerText
-  says-count {m} e h g = rw e (says (said-count m) b d w fits (count-short m h) g)
+    pub says-count : {m : ℕ} → a ≡ Count m → m < 2 ^ 64 → _≡_ {A = Told × List ℕ} (w, d) (written at (decimal m) b)
+        → thenTold w (newline ∷ []) d ≡ spoken (answerSaid a) at b
+    unfolding answerText
+    says-count {m} e h g = rw e (says (said-count m) (count-short m h) g)
 
-  pub says-done : a ≡ Done → _≡_ {A = Told × List ℕ} (w, d) (written 0 okText b) → thenTold w (newline ∷ []) d ≡ spoken (answerSaid a) b
-  unfolding answerText
-  says-done e g = rw e (says said-done b d w fits done-short g)
+    pub says-done : a ≡ Done → _≡_ {A = Told × List ℕ} (w, d) (written at okText b) → thenTold w (newline ∷ []) d ≡ spoken (answerSaid a) at b
+    unfolding answerText
+    says-done e g = rw e (says said-done done-short g)
 
-  pub says-refused : {r : Refusal} → a ≡ Refused r → _≡_ {A = Told × List ℕ} (w, d) (written 0 (refusedText ++ decimal (numberOf r)) b)
-      → thenTold w (newline ∷ []) d ≡ spoken (answerSaid a) b
-  unfolding answerText
-  says-refused {r} e g = rw e (says (calls.refused (numberOf r)) b d w fits (refused-short (numberOf r) (number-small r)) g)
+    pub says-refused : {r : Refusal} → a ≡ Refused r → _≡_ {A = Told × List ℕ} (w, d) (written at (refusedText ++ decimal (numberOf r)) b)
+        → thenTold w (newline ∷ []) d ≡ spoken (answerSaid a) at b
+    unfolding answerText
+    says-refused {r} e g = rw e (says (calls.refused (numberOf r)) (refused-short (numberOf r) (number-small r)) g)
 
 -- ---- a refusal's text
 
-module _ (b d : List ℕ) {w : Written} (fits : room ≤ length b) (first : outcome w d ≡ written 0 refusedText b) where
-  pub refusal-text : (r : Refusal) {n m : ℕ} → w ≡ End n → m ≡ numberOf r → written n (decimal m) d ≡ written 0 (refusedText ++ decimal (numberOf r)) b
+module _ (at : ℕ) (b d : List ℕ) {w : Written} (fits : at + room ≤ length b) (first : outcome w d ≡ written at refusedText b) where
+  pub refusal-text : (r : Refusal) {n m : ℕ} → w ≡ End n → m ≡ numberOf r → written n (decimal m) d ≡ written at (refusedText ++ decimal (numberOf r)) b
   refusal-text r {n} {m} e f =
-      rw f (then-end (decimal (numberOf r)) d e ∙ then-fits 0 refusedText (decimal (numberOf r)) b d (toldOf w) enough first)
+      rw f (then-end (decimal (numberOf r)) d e ∙ then-fits at refusedText (decimal (numberOf r)) b d (toldOf w) enough first)
     where
-      enough : 0 + length (refusedText ++ decimal (numberOf r)) ≤ length b
+      enough : at + length (refusedText ++ decimal (numberOf r)) ≤ length b
       enough = omega (arith, length-append refusedText (decimal (numberOf r)), decimal-32 (numberOf r) (number-small r))
 
   pub refusal-fits : {r : Refusal} → w ≡ written-variants.Refused r → ⊥
   refusal-fits {r} e =
-      omega (arith, written-refused 0 refusedText b d (numberOf r) (ap (λ (x : Written). outcome x d) (sym e) ∙ first) .0)
+      omega (arith, written-refused at refusedText b d (numberOf r) (ap (λ (x : Written). outcome x d) (sym e) ∙ first) .0)
 
 -- ---- a line run
 
-pub ran-short : (t : Table) (line b : List ℕ) → length b < room → _≡_ {A = Run} (refused 6, (t, b)) (ran t line b)
-unfolding ran
-ran-short t line b h = rw (lt-leb room (length b) h)
+module _ (t : Table) (line : List ℕ) (at : ℕ) (b : List ℕ) where
+  pub ran-short : leb (at + room) (length b) ≡ false → _≡_ {A = Run} (refused 6, (t, b)) (ran t line at b)
+  unfolding ran
+  ran-short h = rw h
 
-pub ran-fits : (t : Table) (line b : List ℕ) → room ≤ length b → ran t line b ≡ shown (answered t (asked line)) b
-unfolding ran
-ran-fits t line b h = rw (le-leb room (length b) h)
+  pub ran-fits : leb (at + room) (length b) ≡ true → ran t line at b ≡ shown (answered t (asked line)) at b
+  unfolding ran
+  ran-fits h = rw h
 
--- the parts of a line's outcome, from what was done and what was said
-pub runs : (t u : Table) (line b d : List ℕ) {a : Asked} {s : Said} {w : Told} → room ≤ length b → a ≡ asked line → acted s u ≡ answered t a
-    → _≡_ {A = Told × List ℕ} (w, d) (spoken s b) → _≡_ {A = Run} (w, (u, d)) (ran t line b)
-runs t u line b d {a} {s} {w} h e f g =
-    ap (λ (p : Told × List ℕ). joined u p) (g ∙ spoken-fits s b h)
-    ∙ ap (λ (o : Out). shown o b) (f ∙ ap (answered t) e)
-    ∙ sym (ran-fits t line b h)
-  where
-    joined : Table → Told × List ℕ → Run
-    joined v p = (p .0, (v, p .1))
+  -- the parts of a line's outcome, from what was done and what was said
+  pub runs : (u : Table) (d : List ℕ) {a : Asked} {s : Said} {w : Told} → leb (at + room) (length b) ≡ true → a ≡ asked line → acted s u ≡ answered t a
+      → _≡_ {A = Told × List ℕ} (w, d) (spoken s at b) → _≡_ {A = Run} (w, (u, d)) (ran t line at b)
+  runs u d {a} {s} {w} h e f g =
+      ap (joined u) (g ∙ spoken-fits s at b h) ∙ ap (λ (o : Out). shown o at b) (f ∙ ap (answered t) e) ∙ sym (ran-fits h)
+    where
+      joined : Table → Told × List ℕ → Run
+      joined v p = (p .0, (v, p .1))

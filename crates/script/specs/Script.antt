@@ -1,5 +1,5 @@
 -- A line of a script run on a table, and what is printed for it (the rules, section "Script"). Bytes are ASCII. Assumes nothing.
-use Prim.Native.Nat.{ℕ}
+use Prim.Native.Nat.{ℕ, _+_}
 use mathlib.Core.Bool.{cond}
 use mathlib.Core.List.{List, [], _∷_, _++_}
 use lib.ListN.{length}
@@ -73,10 +73,10 @@ abbrev pub thenTold : Told → List ℕ → List ℕ → Told × List ℕ
 thenTold (ends-at n) t b = written n t b
 thenTold (text.refused r) t b = (text.refused r, b)
 
--- an answer printed into the buffer b: the place after it, and the buffer with the line at its front. The room for the longest line is
--- judged first: "output array or buffer too short" is 6, and nothing is written
-unfoldable pub spoken : Said → List ℕ → Told × List ℕ
-spoken a b = cond (leb room (length b)) (ends-at (length (lineOut a)), put b 0 (lineOut a)) (text.refused 6, b)
+-- an answer printed into the buffer b from a place on: the place after it, and the buffer with the line put in. The room for the longest
+-- line is judged first: "output array or buffer too short" is 6, and nothing is written
+unfoldable pub spoken : Said → ℕ → List ℕ → Told × List ℕ
+spoken a at b = cond (leb (at + room) (length b)) (ends-at (at + length (lineOut a)), put b at (lineOut a)) (text.refused 6, b)
 
 -- a line's outcome: where the printed text ends, the table and the buffer
 abbrev pub Run : Type 0
@@ -85,10 +85,10 @@ Run = Told × (Table × List ℕ)
 abbrev pub ranOf : Written → Table → List ℕ → Run
 ranOf w t b = (toldOf w, (t, b))
 
--- the answer o, printed into the buffer b
-abbrev pub shown : Out → List ℕ → Run
-shown o b = (ends-at (length (lineOut (o .0))), (o .1, put b 0 (lineOut (o .0))))
+-- the answer o, printed into the buffer b from a place on
+abbrev pub shown : Out → ℕ → List ℕ → Run
+shown o at b = (ends-at (at + length (lineOut (o .0))), (o .1, put b at (lineOut (o .0))))
 
--- a line run on a table, its answer printed into the buffer b; where the buffer has no room, nothing is done
-unfoldable pub ran : Table → List ℕ → List ℕ → Run
-ran t line b = cond (leb room (length b)) (shown (answered t (asked line)) b) (text.refused 6, (t, b))
+-- a line run on a table, its answer printed into the buffer b from a place on; where the buffer has no room, nothing is done
+unfoldable pub ran : Table → List ℕ → ℕ → List ℕ → Run
+ran t line at b = cond (leb (at + room) (length b)) (shown (answered t (asked line)) at b) (text.refused 6, (t, b))

@@ -1,7 +1,8 @@
 // The lines of a script, run on a table: what a line asks for is done by the table's calls, and the answer is written as one line of text.
 ghost use mathlib.Core.Path.{_≡_};
 ghost use mathlib.Core.List.{[], _∷_, _++_};
-ghost use Prim.Native.Nat.{_≤_};
+ghost use Prim.Native.Nat.{_+_, _≤_};
+ghost use lib.Dec.{leb};
 ghost use lib.ListN.{length};
 ghost use Rattle.refusal.specs.Refusals.{numberOf};
 ghost use Rattle.text.specs.Text.{decimal, toldOf, outcome, written};
@@ -164,12 +165,22 @@ fn end_line(w: Written, out: &mut [u8]) -> Written
     }
 }
 
-// A refusal's text.
-fn write_refusal(refusal: Refusal, out: &mut [u8]) -> Written
-    requires { ⌜ room ≤ length (now out) ⌝ }
-    ensures { λ r. ⌜ outcome r (now (out .exit)) ≡ written 0 (refusedText ++ decimal (numberOf refusal)) (now (out .entry)) ⌝ }
+// Whether the longest line fits from a place on into a buffer of this size. The place and the room are never added: their sum may not fit a usize.
+fn has_room(at: usize, size: usize) -> bool
+    ensures { λ r. ⌜ r ≡ leb (at + room) size ⌝ }
 {
-    match write_bytes(b"refused ", 0, out) {
+    if size < at {
+        return false;
+    }
+    ROOM <= size - at
+}
+
+// A refusal's text.
+fn write_refusal(refusal: Refusal, at: usize, out: &mut [u8]) -> Written
+    requires { ⌜ at + room ≤ length (now out) ⌝ }
+    ensures { λ r. ⌜ outcome r (now (out .exit)) ≡ written at (refusedText ++ decimal (numberOf refusal)) (now (out .entry)) ⌝ }
+{
+    match write_bytes(b"refused ", at, out) {
         Written::End(n) => {
             let number = refusal.number();
             write_decimal(number as u64, n, out)
@@ -178,39 +189,39 @@ fn write_refusal(refusal: Refusal, out: &mut [u8]) -> Written
     }
 }
 
-// Writes an answer as one line, at the front of a buffer.
-pub fn say(answer: Answer, out: &mut [u8]) -> Written
-    ensures { λ r. ⌜ outcome r (now (out .exit)) ≡ spoken (answerSaid answer) (now (out .entry)) ⌝ }
+// Writes an answer as one line, from a place of a buffer on.
+pub fn say(answer: Answer, at: usize, out: &mut [u8]) -> Written
+    ensures { λ r. ⌜ outcome r (now (out .exit)) ≡ spoken (answerSaid answer) at (now (out .entry)) ⌝ }
 {
-    if out.len() < ROOM {
+    if !has_room(at, out.len()) {
         return Written::Refused(Refusal::Short);
     }
     match answer {
         Answer::Key(k) => {
-            let w = write_key(KeyData::from_ffi(k), 0, out);
+            let w = write_key(KeyData::from_ffi(k), at, out);
             end_line(w, out)
         }
         Answer::Value(x) => {
-            let w = write_decimal(x, 0, out);
+            let w = write_decimal(x, at, out);
             end_line(w, out)
         }
         Answer::Done => {
-            let w = write_bytes(b"ok", 0, out);
+            let w = write_bytes(b"ok", at, out);
             end_line(w, out)
         }
         Answer::Count(n) => {
-            let w = write_decimal(n as u64, 0, out);
+            let w = write_decimal(n as u64, at, out);
             end_line(w, out)
         }
         Answer::Refused(r) => {
-            let w = write_refusal(r, out);
+            let w = write_refusal(r, at, out);
             end_line(w, out)
         }
     }
 }
 
-// Runs one line, given without its newline, and writes its answer at the front of a buffer. The room for the longest answer is judged first,
-// so a refusal for want of room leaves the table as it was.
+// Runs one line, given without its newline, and writes its answer from a place of a buffer on. The room for the longest answer is judged
+// first, so a refusal for want of room leaves the table as it was.
 pub fn run_line(
     h: Header,
     versions: &mut [u32],
@@ -218,11 +229,12 @@ pub fn run_line(
     keys: &mut [u64],
     values: &mut [u64],
     line: &[u8],
+    at: usize,
     out: &mut [u8],
 ) -> Ran
-    ensures { λ r. ⌜ ranOf (r .end) (after versions links keys values (r .header)) (now (out .exit)) ≡ ran (before versions links keys values h) (now (line .entry)) (now (out .entry)) ⌝ }
+    ensures { λ r. ⌜ ranOf (r .end) (after versions links keys values (r .header)) (now (out .exit)) ≡ ran (before versions links keys values h) (now (line .entry)) at (now (out .entry)) ⌝ }
 {
-    if out.len() < ROOM {
+    if !has_room(at, out.len()) {
         return Ran {
             header: h,
             end: Written::Refused(Refusal::Short),
@@ -233,6 +245,6 @@ pub fn run_line(
     let a = did.answer;
     Ran {
         header: g,
-        end: say(a, out),
+        end: say(a, at, out),
     }
 }

@@ -1,21 +1,24 @@
 -- `run_line` does what the line asks for and says the answer. Assumes nothing.
 use borrow.Author.Needs.{needs}
+use Rattle.lists.proofs.Tests.{refuted, confirmed}
 use Rattle.script.proofs.Says.{ran-short, runs}
 use Rattle.script.proofs.run_line.Statement.{statement}
 use Rattle.script.proofs.run_line.Tie as tie
 
 returns : tie.Need-returns
-returns c = ran-short _ _ _ (c .if1 .taken)
+returns c = ran-short _ _ _ _ (refuted (c .before .has-room .ensures) (c .if1 .taken))
 
 returns-2 : tie.Need-returns-2
 returns-2 c =
     let did = c .before .before .before .before .before .before .before .before .before .before .before .before .before in
-    runs _ _ _ _ _ (did .before .before .before .before .before .before .if1 .left) (did .before .parse .ensures) (did .act .ensures) (c .before .before .say .ensures)
+    let judged = did .before .before .before .before .before .before in
+    runs _ _ _ _ _ _ (confirmed (judged .before .has-room .ensures) (judged .if1 .left)) (did .before .parse .ensures) (did .act .ensures) (c .before .before .say .ensures)
 
 pub run-line-spec : {M : Type 1} → statement M
 run-line-spec =
     tie.close
     (tie.spec
+    (λ c κs. search needs)
     returns
     (λ c κs. search needs)
     (λ c κs. search needs)

@@ -8,13 +8,14 @@ use Rattle.script.proofs.write_refusal.Tie as tie
 returns : tie.Need-returns
 returns c =
     let first = c .before .before .before .before .before .before .before .before .before .before in
+    let start = first .before .before .before .before in
     c .before .before .write-decimal .ensures
-    ∙ refusal-text _ _ (first .before .before .before .before .pre) (first .write-bytes .ensures) (first .before .before .before .before .args .refusal) (c .before .before .before .before .before .before .n .given .1) (c .before .before .before .before .number .ensures)
+    ∙ refusal-text _ _ _ (start .pre) (first .write-bytes .ensures) (start .args .refusal) (c .before .before .before .before .before .before .n .given .1) (c .before .before .before .before .number .ensures)
 
 returns-2 : tie.Need-returns-2
 returns-2 c =
     let first = c .before .before .before .before .before in
-    absurd (refusal-fits _ _ (first .before .before .before .before .pre) (first .write-bytes .ensures) (c .before .r .given .1))
+    absurd (refusal-fits _ _ _ (first .before .before .before .before .pre) (first .write-bytes .ensures) (c .before .r .given .1))
 
 pub write-refusal-spec : {M : Type 1} → statement M
 write-refusal-spec =
