@@ -1,5 +1,5 @@
 -- Texts after texts in a buffer, and how long the line of an answer is. Assumes nothing.
-use mathlib.Core.Path.{_≡_, refl, sym, ap, ap₂, _∙_}
+use mathlib.Core.Path.{_≡_, sym, ap, ap₂, _∙_, subst}
 use mathlib.Core.Bool.{true, false}
 use mathlib.Core.List.{List, [], _∷_, _++_}
 use Prim.Native.Nat.{ℕ, _+_, _^_, _≤_, _<_, _/_}
@@ -28,7 +28,7 @@ use Rattle.table.specs.Calls as calls
 use Rattle.commands.specs.Lines.{Asked, asked}
 use Rattle.script.specs.declared.Answer.{Answer}
 use Rattle.script.specs.declared.Answer.the-variants.{Key, Value, Done, Count, Refused}
-use Rattle.script.specs.Script.{answerSaid, acted, answered, okText, refusedText, newline, answerText, lineOut, room, thenTold, spoken, Run, shown, ran}
+use Rattle.script.specs.Script.{answerSaid, acted, answered, okText, refusedText, newline, answerText, lineOut, room, thenTold, spoken, endOf, Run, shown, ran}
 
 -- ---- a text after a text
 
@@ -129,40 +129,45 @@ pub spoken-fits : (a : Said) (at : ℕ) (b : List ℕ) → leb (at + room) (leng
 unfolding spoken
 spoken-fits a at b h = rw h
 
--- b is the buffer before, d the buffer after the answer's text
-module _ (at : ℕ) (b d : List ℕ) (w : Told) (fits : leb (at + room) (length b) ≡ true) where
-  -- the answer's text and the newline after it are the answer's line
-  says : (s : Said) → length (lineOut s) ≤ room → _≡_ {A = Told × List ℕ} (w, d) (written at (answerText s) b) → thenTold w (newline ∷ []) d ≡ spoken s at b
+-- b is the buffer before, d the buffer after the answer's text, and x the buffer after the newline
+module _ (at : ℕ) (b d : List ℕ) (w : Told) {q : Told} {x : List ℕ} (fits : leb (at + room) (length b) ≡ true)
+    (ends : _≡_ {A = Told × List ℕ} (q, x) (thenTold w (newline ∷ []) d)) where
+  -- the answer's text and the newline after it are the answer's line, which is no longer than the room
+  says : (s : Said) → length (lineOut s) ≤ room → _≡_ {A = Told × List ℕ} (w, d) (written at (answerText s) b)
+      → (_≡_ {A = Told × List ℕ} (q, x) (spoken s at b)) × (endOf q ≤ at + room)
   unfolding lineOut
-  says s l e =
-      then-fits at (answerText s) (newline ∷ []) b d w enough e ∙ written-is at (lineOut s) b enough ∙ sym (spoken-fits s at b fits)
+  says s l e = (spoke, subst (λ (p : Told × List ℕ). endOf (p .0) ≤ at + room) (sym (spoke ∙ spoken-fits s at b fits)) (omega arith))
     where
       enough : at + length (lineOut s) ≤ length b
       enough = omega (arith, leb-true (at + room) (length b) fits)
 
+      spoke : _≡_ {A = Told × List ℕ} (q, x) (spoken s at b)
+      spoke = ends ∙ then-fits at (answerText s) (newline ∷ []) b d w enough e ∙ written-is at (lineOut s) b enough ∙ sym (spoken-fits s at b fits)
+
   -- the same by the kind of answer
   module _ {a : Answer} where
     pub says-key : {k : ℕ} {key : KeyData} → a ≡ Key k → key ≡ keyOf k → _≡_ {A = Told × List ℕ} (w, d) (written at (keyText key) b)
-        → thenTold w (newline ∷ []) d ≡ spoken (answerSaid a) at b
+        → (_≡_ {A = Told × List ℕ} (q, x) (spoken (answerSaid a) at b)) × (endOf q ≤ at + room)
     unfolding answerText
     says-key {k} e f g = rw e (says (said-key k) (key-short k) (rw f at g))
 
-    pub says-value : {x : ℕ} → a ≡ Value x → x < 2 ^ 64 → _≡_ {A = Told × List ℕ} (w, d) (written at (decimal x) b)
-        → thenTold w (newline ∷ []) d ≡ spoken (answerSaid a) at b
+    pub says-value : {y : ℕ} → a ≡ Value y → y < 2 ^ 64 → _≡_ {A = Told × List ℕ} (w, d) (written at (decimal y) b)
+        → (_≡_ {A = Told × List ℕ} (q, x) (spoken (answerSaid a) at b)) × (endOf q ≤ at + room)
     unfolding answerText
-    says-value {x} e h g = rw e (says (said-value x) (value-short x h) g)
+    says-value {y} e h g = rw e (says (said-value y) (value-short y h) g)
 
     pub says-count : {m : ℕ} → a ≡ Count m → m < 2 ^ 64 → _≡_ {A = Told × List ℕ} (w, d) (written at (decimal m) b)
-        → thenTold w (newline ∷ []) d ≡ spoken (answerSaid a) at b
+        → (_≡_ {A = Told × List ℕ} (q, x) (spoken (answerSaid a) at b)) × (endOf q ≤ at + room)
     unfolding answerText
     says-count {m} e h g = rw e (says (said-count m) (count-short m h) g)
 
-    pub says-done : a ≡ Done → _≡_ {A = Told × List ℕ} (w, d) (written at okText b) → thenTold w (newline ∷ []) d ≡ spoken (answerSaid a) at b
+    pub says-done : a ≡ Done → _≡_ {A = Told × List ℕ} (w, d) (written at okText b)
+        → (_≡_ {A = Told × List ℕ} (q, x) (spoken (answerSaid a) at b)) × (endOf q ≤ at + room)
     unfolding answerText
     says-done e g = rw e (says said-done done-short g)
 
     pub says-refused : {r : Refusal} → a ≡ Refused r → _≡_ {A = Told × List ℕ} (w, d) (written at (refusedText ++ decimal (numberOf r)) b)
-        → thenTold w (newline ∷ []) d ≡ spoken (answerSaid a) at b
+        → (_≡_ {A = Told × List ℕ} (q, x) (spoken (answerSaid a) at b)) × (endOf q ≤ at + room)
     unfolding answerText
     says-refused {r} e g = rw e (says (calls.refused (numberOf r)) (refused-short (numberOf r) (number-small r)) g)
 

@@ -78,6 +78,11 @@ thenTold (text.refused r) t b = (text.refused r, b)
 unfoldable pub spoken : Said → ℕ → List ℕ → Told × List ℕ
 spoken a at b = cond (leb (at + room) (length b)) (ends-at (at + length (lineOut a)), put b at (lineOut a)) (text.refused 6, b)
 
+-- where a text was told to end; 0 of a refusal
+abbrev pub endOf : Told → ℕ
+endOf (ends-at n) = n
+endOf (text.refused r) = 0
+
 -- a line's outcome: where the printed text ends, the table and the buffer
 abbrev pub Run : Type 0
 Run = Told × (Table × List ℕ)

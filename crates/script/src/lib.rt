@@ -9,7 +9,7 @@ ghost use Rattle.text.specs.Text.{decimal, toldOf, outcome, written};
 ghost use Rattle.dense.specs.Lent.{before, after};
 ghost use Rattle.dense.specs.Answers.{valueSaid, issuedSaid, countSaid, doneSaid};
 ghost use Rattle.commands.specs.Lines.{askedOf};
-ghost use Rattle.script.specs.Script.{answerSaid, acted, answered, refusedText, newline, room, thenTold, spoken, ranOf, ran};
+ghost use Rattle.script.specs.Script.{answerSaid, acted, answered, refusedText, newline, room, thenTold, spoken, endOf, ranOf, ran};
 use commands::Command;
 use commands::parse;
 use dense::Counted;
@@ -189,9 +189,9 @@ fn write_refusal(refusal: Refusal, at: usize, out: &mut [u8]) -> Written
     }
 }
 
-// Writes an answer as one line, from a place of a buffer on.
+// Writes an answer as one line, from a place of a buffer on. The line is never longer than the room.
 pub fn say(answer: Answer, at: usize, out: &mut [u8]) -> Written
-    ensures { λ r. ⌜ outcome r (now (out .exit)) ≡ spoken (answerSaid answer) at (now (out .entry)) ⌝ }
+    ensures { λ r. ⌜ (outcome r (now (out .exit)) ≡ spoken (answerSaid answer) at (now (out .entry))) × (endOf (toldOf r) ≤ at + room) ⌝ }
 {
     if !has_room(at, out.len()) {
         return Written::Refused(Refusal::Short);
@@ -232,7 +232,7 @@ pub fn run_line(
     at: usize,
     out: &mut [u8],
 ) -> Ran
-    ensures { λ r. ⌜ ranOf (r .end) (after versions links keys values (r .header)) (now (out .exit)) ≡ ran (before versions links keys values h) (now (line .entry)) at (now (out .entry)) ⌝ }
+    ensures { λ r. ⌜ (ranOf (r .end) (after versions links keys values (r .header)) (now (out .exit)) ≡ ran (before versions links keys values h) (now (line .entry)) at (now (out .entry))) × (endOf (toldOf (r .end)) ≤ at + room) ⌝ }
 {
     if !has_room(at, out.len()) {
         return Ran {

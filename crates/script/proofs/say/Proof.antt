@@ -1,7 +1,7 @@
 -- `say` writes an answer's text by its kind, and ends the line; the room judged at the start is enough. Assumes nothing.
-use mathlib.Core.Path.{_≡_, _∙_}
+use mathlib.Core.Path.{_≡_}
 use mathlib.Core.Bool.{true}
-use Prim.Native.Nat.{_+_}
+use Prim.Native.Nat.{_+_, zero-le}
 use native.Mathlib.Omega.{arith}
 use lib.ListN.{length}
 use lib.Dec.{leb}
@@ -17,35 +17,30 @@ fits : (c : tie.Else1) → let s = c .before .before .before .args in leb (s .at
 fits c = confirmed (c .before .has-room .ensures) (c .if1 .left)
 
 returns : tie.Need-returns
-returns c = spoken-short _ _ _ (refuted (c .before .has-room .ensures) (c .if1 .taken))
+returns c = (spoken-short _ _ _ (refuted (c .before .has-room .ensures) (c .if1 .taken)), zero-le)
 
 write-refusal-requires : tie.Need-write-refusal-requires
 write-refusal-requires c κs = leb-true _ _ (fits (c .before .before .before .before))
 
 returns-2 : tie.Need-returns-2
 returns-2 c =
-    c .before .before .end-line .ensures
-    ∙ says-key _ _ _ _ (fits (c .before .before .before .before .before .before .before .before .before .before .before .before)) (c .before .before .before .before .before .before .before .before .before .before .answer .given .1) (c .before .before .before .before .before .before .before .before .from-ffi .ensures) (c .before .before .before .before .before .before .write-key .ensures)
+    says-key _ _ _ _ (fits (c .before .before .before .before .before .before .before .before .before .before .before .before)) (c .before .before .end-line .ensures) (c .before .before .before .before .before .before .before .before .before .before .answer .given .1) (c .before .before .before .before .before .before .before .before .from-ffi .ensures) (c .before .before .before .before .before .before .write-key .ensures)
 
 returns-3 : tie.Need-returns-3
 returns-3 c =
-    c .before .before .end-line2 .ensures
-    ∙ says-value _ _ _ _ (fits (c .before .before .before .before .before .before .before .before .before .before .before)) (c .before .before .before .before .before .before .before .before .before .answer2 .given .1) (omega arith) (c .before .before .before .before .before .before .write-decimal .ensures)
+    says-value _ _ _ _ (fits (c .before .before .before .before .before .before .before .before .before .before .before)) (c .before .before .end-line2 .ensures) (c .before .before .before .before .before .before .before .before .before .answer2 .given .1) (omega arith) (c .before .before .before .before .before .before .write-decimal .ensures)
 
 returns-4 : tie.Need-returns-4
 returns-4 c =
-    c .before .before .end-line3 .ensures
-    ∙ says-done _ _ _ _ (fits (c .before .before .before .before .before .before .before .before .before .before .before)) (c .before .before .before .before .before .before .before .before .before .enum-told .given .1) (c .before .before .before .before .before .before .write-bytes .ensures)
+    says-done _ _ _ _ (fits (c .before .before .before .before .before .before .before .before .before .before .before)) (c .before .before .end-line3 .ensures) (c .before .before .before .before .before .before .before .before .before .enum-told .given .1) (c .before .before .before .before .before .before .write-bytes .ensures)
 
 returns-5 : tie.Need-returns-5
 returns-5 c =
-    c .before .before .end-line4 .ensures
-    ∙ says-count _ _ _ _ (fits (c .before .before .before .before .before .before .before .before .before .before .before)) (c .before .before .before .before .before .before .before .before .before .answer3 .given .1) (omega arith) (c .before .before .before .before .before .before .write-decimal2 .ensures)
+    says-count _ _ _ _ (fits (c .before .before .before .before .before .before .before .before .before .before .before)) (c .before .before .end-line4 .ensures) (c .before .before .before .before .before .before .before .before .before .answer3 .given .1) (omega arith) (c .before .before .before .before .before .before .write-decimal2 .ensures)
 
 returns-6 : tie.Need-returns-6
 returns-6 c =
-    c .before .before .end-line5 .ensures
-    ∙ says-refused _ _ _ _ (fits (c .before .before .before .before .before .before .before .before .before .before .before)) (c .before .before .before .before .before .before .before .before .before .answer4 .given .1) (c .before .before .before .before .before .before .write-refusal .ensures)
+    says-refused _ _ _ _ (fits (c .before .before .before .before .before .before .before .before .before .before .before)) (c .before .before .end-line5 .ensures) (c .before .before .before .before .before .before .before .before .before .answer4 .given .1) (c .before .before .before .before .before .before .write-refusal .ensures)
 
 pub say-spec : {M : Type 1} → statement M
 say-spec =
