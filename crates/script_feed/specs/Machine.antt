@@ -1,6 +1,6 @@
 -- The machine that reads an input part by part: a table, the line that has begun, and the output. Assumes nothing.
 use Prim.Native.Nat.{ℕ, _+_, _*_, _≤_}
-use mathlib.Core.Bool.{Bool, cond, _&&_}
+use mathlib.Core.Bool.{Bool, true, cond, _&&_}
 use mathlib.Core.List.{List, [], _∷_, _++_}
 use lib.ListN.{length, take, set}
 use lib.Dec.{leb, ltb, eqb}
@@ -90,6 +90,11 @@ finished m = cond (isReady m 1) (ending (cond (eqb (m .count) 0) (0, m) (closed 
 -- what a step has printed: the front of the output, up to the place it ends at
 abbrev pub saidBy : Fed → List ℕ
 saidBy f = take (endOf (f .0)) (f .1 .out)
+
+-- whether no part has more than k bytes
+unfoldable pub areWithin : ℕ → List (List ℕ) → Bool
+areWithin k [] = true
+areWithin k (s ∷ parts) = leb (length s) k && areWithin k parts
 
 -- what is printed when the parts are fed one after the other and the input then ends; and the table at the end
 unfoldable pub session : Machine → List (List ℕ) → List ℕ × Table
