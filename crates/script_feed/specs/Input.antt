@@ -4,8 +4,8 @@ use mathlib.Core.Bool.{cond}
 use mathlib.Core.List.{List, [], _∷_, _++_}
 use lib.Dec.{eqb}
 use Rattle.table.specs.Table.{Table}
-use Rattle.table.specs.Calls.{Out}
-use Rattle.commands.specs.Lines.{asked}
+use Rattle.table.specs.Steps.{Call}
+use Rattle.commands.specs.Lines.{Asked, asks, asks-len, rejects, asked}
 use Rattle.script.specs.Script.{answered, newline, lineOut}
 
 -- the last line, where the bytes p came after the last newline: "the last may lack it"; where none came there is no line
@@ -33,3 +33,16 @@ printedLines t (l ∷ ls) = ahead (lineOut (answered t (asked l) .0)) (printedLi
 -- what an input prints, from the table t on; and the table after it
 abbrev pub printed : Table → List ℕ → List ℕ × Table
 printed t s = printedLines t (lines s)
+
+-- ---- the calls that lines ask for
+
+-- the calls made, the latest first, once what a line asks for is done; `l` and a line that is not understood make none
+abbrev pub calledBy : List Call → Asked → List Call
+calledBy cs (asks c) = c ∷ cs
+calledBy cs asks-len = cs
+calledBy cs (rejects r) = cs
+
+-- the same of all lines, after the calls cs
+unfoldable pub called : List Call → List (List ℕ) → List Call
+called cs [] = cs
+called cs (l ∷ ls) = called (calledBy cs (asked l)) ls
