@@ -1,10 +1,10 @@
 -- What a command does, by its kind: the table's own call. Assumes nothing.
-use mathlib.Core.Path.{_≡_, refl, sym, ap, ap₂, _∙_}
+use mathlib.Core.Path.{_≡_, sym, ap}
 use Prim.Native.Nat.{ℕ}
 use Rattle.refusal.specs.declared.Refusal.{Refusal}
 use Rattle.refusal.specs.Refusals.{numberOf}
 use Rattle.table.specs.Table.{Table}
-use Rattle.table.specs.Calls.{Said, refused, Out, len, lookup, insert, remove, detach, reattach}
+use Rattle.table.specs.Calls.{Said, refused, len, lookup, insert, remove, detach, reattach}
 use Rattle.table.specs.Steps.{step}
 use Rattle.table.proofs.Frames.{frame-lookup}
 use Rattle.commands.specs.declared.Command.{Command}

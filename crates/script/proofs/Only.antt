@@ -4,7 +4,7 @@ use mathlib.Core.List.{List}
 use Prim.Native.Nat.{ℕ}
 use Rattle.lists.proofs.Only.{only-both}
 use Rattle.text.specs.declared.Written.{Written}
-use Rattle.text.specs.Text.{Told, toldOf, outcome}
+use Rattle.text.specs.Text.{Told, outcome}
 use Rattle.text.proofs.Text.{told-one-to-one, written-only}
 use Rattle.table.specs.Table.{Table}
 use Rattle.table.specs.Calls.{Out}

@@ -17,6 +17,10 @@ use Rattle.script.specs.declared.Answer.{Answer}
 use Rattle.script.specs.declared.Answer.the-variants.{Key, Value, Done, Count, Refused}
 use Rattle.text.specs.declared.Written.{Written}
 
+-- "C=1,000"
+abbrev pub capacity : ℕ
+capacity = 1000
+
 -- what an answer of the code says on paper
 abbrev pub answerSaid : Answer → Said
 answerSaid (Key k) = said-key k
@@ -25,6 +29,7 @@ answerSaid Done = said-done
 answerSaid (Count m) = said-count m
 answerSaid (Refused r) = refused (numberOf r)
 
+-- an answer with the table after the command
 abbrev pub acted : Said → Table → Out
 acted said t = (said, t)
 

@@ -3,14 +3,14 @@
 -- Assumes nothing.
 use mathlib.Core.Path.{_≡_, refl, sym, ap, _∙_, subst}
 use mathlib.Core.Logic.{_↔_}
-use mathlib.Core.Bool.{Bool, true, false, cond}
+use mathlib.Core.Bool.{true, false, cond}
 use mathlib.Core.List.{List, [], _∷_, flatten}
-use mathlib.Core.Option.{Option, none}
+use mathlib.Core.Option.{none}
 use Prim.Native.Nat.{ℕ, _+_, _*_, _≤_}
 use lib.ListN.{length}
 use Rattle.keys.specs.Keys.{asRead}
-use Rattle.table.specs.Table.{Table, cap, lengthsFit, hasShape}
-use Rattle.table.specs.Calls.{Said, said-key, said-done, said-count, refused, Out, freshTable, len}
+use Rattle.table.specs.Table.{Table, cap, lengthsFit}
+use Rattle.table.specs.Calls.{said-key, said-done, said-count, refused, freshTable, len}
 use Rattle.table.specs.Sound.{Sound}
 use Rattle.table.specs.Steps.{Call, c-lookup, c-insert, c-remove, c-detach, c-reattach, step, after, history}
 use Rattle.table.specs.Reading.{Reading, reading, valueIn, isIn}
@@ -21,8 +21,8 @@ use Rattle.table.proofs.Counted.{insert-reads}
 use Rattle.table.proofs.Listed.{count-reads}
 use Rattle.table.proofs.Undamaged.{no-damage}
 use Rattle.commands.specs.Lines.{Asked, asks, asks-len, rejects, asked}
-use Rattle.script.specs.Script.{answered, lineOut, room}
-use Rattle.script_feed.specs.Input.{lines, ahead, printedLines, printed, calledBy, called}
+use Rattle.script.specs.Script.{capacity, answered, lineOut, room}
+use Rattle.script_feed.specs.Input.{lines, ahead, printedLines, calledBy, called}
 use Rattle.script_feed.specs.Machine.{held, machine, areWithin, session}
 use Rattle.script_feed.proofs.Cuts.{session-printed}
 
@@ -93,6 +93,11 @@ module _ (t : Table) (base : Reading) (b : Begins t base) (cs : List Call) (l : 
   never-damaged {c} e f = no-damage (after t cs) (begins-after t base b cs .sound) c (sym (called-said e) ∙ f)
 
 -- ---- the whole input, from a fresh table, in any parts
+
+-- a table of the script's capacity can begin
+pub capacity-fits : (vs ls ks xs : List ℕ) → length vs ≡ capacity + 1 → length ls ≡ capacity + 1 → length ks ≡ capacity → length xs ≡ capacity → lengthsFit vs ls ks xs ≡ true
+unfolding lengthsFit
+capacity-fits vs ls ks xs v l k x = rw (k, v, l, x)
 
 module _ (vs ls ks xs line out : List ℕ) (k : ℕ) (parts : List (List ℕ)) (long : held ≤ length line) (some : 1 ≤ k) (room-for : k * room ≤ length out)
     (short : areWithin k parts ≡ true) where

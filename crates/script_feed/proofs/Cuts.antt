@@ -3,7 +3,7 @@
 use mathlib.Core.Path.{_≡_, refl, sym, ap, _∙_, subst}
 use mathlib.Core.Bool.{true, false, cond}
 use mathlib.Core.List.{List, [], _∷_, _++_, append-assoc, append-nil, flatten}
-use Prim.Native.Nat.{ℕ, zero, suc, _+_, _-_, _*_, _≤_, _<_, min}
+use Prim.Native.Nat.{ℕ, _+_, _-_, _*_, _≤_, _<_, min}
 use native.Mathlib.Numerals.{add-one}
 use native.Mathlib.Omega.{arith}
 use lib.ListN.{length, take, drop, set, length-append, length-take, length-drop, length-set}
@@ -12,15 +12,14 @@ use lib.Dec.{leb, eqb, ltb}
 use borrow.Author.Tests.{leb-true, ltb-true, ltb-false, eqb-true, eqb-false, eq-eqb, ne-eqb}
 use Rattle.lists.specs.Put.{put}
 use Rattle.lists.proofs.Tests.{split, and-left, and-right}
-use Rattle.text.specs.Text.{ends-at}
 use Rattle.table.specs.Table.{Table}
 use Rattle.table.specs.Calls.{Out}
 use Rattle.commands.specs.Lines.{longest, asked}
 use Rattle.commands.proofs.Lines.{asked-long}
 use Rattle.script.specs.Script.{answered, newline, lineOut, room}
-use Rattle.script_feed.specs.Input.{lastLine, linesFrom, lines, ahead, printedLines, printed}
-use Rattle.script_feed.specs.Machine.{held, Machine, machine, begun, Step, closed, took, tookAll, isReady, Fed, ending, fed, finished, saidBy, areWithin, session}
-use Rattle.script_feed.proofs.Steps.{took-newline, took-held, took-past, took-count, ready-from, fed-ready, finished-empty, finished-line}
+use Rattle.script_feed.specs.Input.{lastLine, linesFrom, ahead, printedLines, printed}
+use Rattle.script_feed.specs.Machine.{held, Machine, machine, begun, Step, closed, took, tookAll, isReady, Fed, saidBy, areWithin, session}
+use Rattle.script_feed.proofs.Steps.{took-newline, took-held, took-past, ready-from, fed-ready, finished-empty, finished-line}
 
 -- ---- what is held of a line says as much as the line
 

@@ -4,11 +4,11 @@ use mathlib.Core.Bool.{true, false, cond}
 use mathlib.Core.List.{List, [], _∷_, _++_, append-assoc, append-nil}
 use Prim.Native.Nat.{ℕ}
 use lib.Dec.{eqb}
-use borrow.Author.Tests.{eq-eqb, ne-eqb, eqb-true}
+use borrow.Author.Tests.{eq-eqb, ne-eqb}
 use Rattle.lists.specs.Among.{among}
 use Rattle.lists.proofs.Tests.{split, true-false}
 use Rattle.script.specs.Script.{newline}
-use Rattle.script_feed.specs.Input.{lastLine, linesFrom, lines}
+use Rattle.script_feed.specs.Input.{linesFrom, lines}
 
 -- bytes without a newline are held
 pass : (l p s : List ℕ) → among newline l ≡ false → linesFrom p (l ++ s) ≡ linesFrom (p ++ l) s

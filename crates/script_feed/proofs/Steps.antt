@@ -1,23 +1,23 @@
 -- What each branch of the code leaves, as laws of the machine; and the invariant of the loop over a part's bytes. Assumes nothing.
 use mathlib.Core.Path.{_≡_, refl, sym, ap, _∙_, subst}
-use mathlib.Core.Bool.{Bool, true, false, cond, _&&_}
-use mathlib.Core.List.{List, [], _∷_}
-use Prim.Native.Nat.{ℕ, suc, _+_, _*_, _-_, _/_, _≤_, _<_}
+use mathlib.Core.Bool.{true, false}
+use mathlib.Core.List.{List, _∷_}
+use Prim.Native.Nat.{ℕ, _+_, _*_, _-_, _/_, _≤_, _<_}
 use native.Mathlib.Numerals.{add-one}
 use native.Mathlib.Omega.{arith}
 use lib.ListN.{length, getD, drop, set, drop-of-length-le}
 use lib.Seq.{drop-cons}
 use lib.Dec.{leb, ltb, eqb}
 use borrow.Author.Tests.{leb-true, ltb-true, ltb-false, eqb-true, eqb-false, le-leb, lt-leb, lt-ltb, le-ltb, eq-eqb, ne-eqb}
-use Rattle.lists.proofs.Tests.{split, and-true, and-left, and-right, same-test, true-false}
+use Rattle.lists.proofs.Tests.{split, and-left, and-right, same-test}
 use Rattle.refusal.specs.declared.Refusal.{Refusal}
 use Rattle.text.specs.declared.Written.{Written}
 use Rattle.text.specs.declared.Written.the-variants.{End, Refused}
-use Rattle.text.specs.Text.{Told, ends-at, refused, toldOf}
+use Rattle.text.specs.Text.{ends-at, refused, toldOf}
 use Rattle.table.specs.Table.{Table}
 use Rattle.script.specs.Script.{newline, room, endOf, Run, ranOf, ran}
 use Rattle.script.proofs.Says.{ran-fits}
-use Rattle.script_feed.specs.Machine.{held, Machine, machine, begun, Step, stepOf, closed, took, tookAll, isReadyFor, isReady, Fed, fedOf, ending, fed, finished}
+use Rattle.script_feed.specs.Machine.{held, Machine, machine, begun, Step, stepOf, closed, took, tookAll, isReadyFor, isReady, Fed, ending, fed, finished}
 use Rattle.script_feed.specs.Ready.{Ready}
 
 -- ---- what is judged first

@@ -1,5 +1,5 @@
 -- The machine that reads an input part by part: a table, the line that has begun, and the output. Assumes nothing.
-use Prim.Native.Nat.{ℕ, _+_, _*_, _≤_}
+use Prim.Native.Nat.{ℕ, _+_, _*_}
 use mathlib.Core.Bool.{Bool, true, cond, _&&_}
 use mathlib.Core.List.{List, [], _∷_, _++_}
 use lib.ListN.{length, take, set}
@@ -9,12 +9,12 @@ use Rattle.text.specs.declared.Written.{Written}
 use Rattle.text.specs.Text.{Told, ends-at, refused, toldOf}
 use Rattle.table.specs.Table.{Table}
 use Rattle.table.specs.Calls.{Out}
-use Rattle.commands.specs.Lines.{asked}
+use Rattle.commands.specs.Lines.{longest, asked}
 use Rattle.script.specs.Script.{answered, newline, lineOut, room, endOf}
 
 -- how many bytes of a line are held: one more than a line may have, so that a longer one shows
 abbrev pub held : ℕ
-held = 81
+held = longest + 1
 
 -- the table; the line that has begun, as a count and a buffer; and the output
 pub record Machine : Type 0 where

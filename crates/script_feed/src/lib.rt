@@ -1,10 +1,11 @@
 // A script's input, read part by part: bytes are held until a newline ends their line, which is then run. Where the parts are cut changes nothing.
 ghost use mathlib.Core.Path.{_≡_};
 ghost use Prim.Native.Nat.{_+_, _≤_};
-ghost use Rattle.dense.specs.Lent.{table, before, after};
+ghost use Rattle.dense.specs.Lent.{before, after};
 ghost use Rattle.script.specs.Script.{room};
-ghost use Rattle.script_feed.specs.Machine.{held, machine, stepOf, closed, took, isReadyFor, fedOf, fed, finished};
+ghost use Rattle.script_feed.specs.Machine.{machine, stepOf, closed, took, isReadyFor, fedOf, fed, finished};
 ghost use Rattle.script_feed.specs.Ready.{Ready};
+use commands::LONGEST;
 use refusal::Refusal;
 use script::ROOM;
 use script::run_line;
@@ -12,7 +13,7 @@ use table::Header;
 use text::Written;
 
 // How many bytes of a line are held: one more than a line may have, so that a longer one shows.
-pub const HELD: usize = 81;
+pub const HELD: usize = LONGEST + 1;
 
 const NEWLINE: u8 = b'\n';
 

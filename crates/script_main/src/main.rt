@@ -6,6 +6,7 @@ use libc::STDERR_FILENO;
 use libc::STDIN_FILENO;
 use libc::STDOUT_FILENO;
 use script::CAPACITY;
+use script::ROOM;
 use script_feed::HELD;
 use script_feed::feed;
 use script_feed::finish;
@@ -14,8 +15,10 @@ use text::Written;
 
 const SLOTS: usize = CAPACITY + 1;
 
-// Room for an answer to each byte of one read.
-const OUTPUT: usize = 90112;
+// How many bytes one read brings at most, and room for an answer to each.
+const PART: usize = 4096;
+
+const OUTPUT: usize = PART * ROOM;
 
 // What goes from read to read, and whether to go on.
 struct Now {
@@ -56,7 +59,7 @@ fn turn(
     line: &mut [u8],
     out: &mut [u8],
 ) -> Now {
-    let mut buffer = io::buffer();
+    let mut buffer = [0u8; PART];
     let got = libc::read(STDIN_FILENO, &mut buffer);
     if got < 0 {
         let on = fail(b"script: standard input cannot be read\n");

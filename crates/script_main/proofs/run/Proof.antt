@@ -1,6 +1,5 @@
 -- `run` reads turn by turn; the arrays keep their lengths, and the turns that are left fall. Assumes nothing.
 use mathlib.Core.Path.{_≡_}
-use native.Mathlib.Omega.{arith}
 use lib.ListN.{length}
 use borrow.Author.Needs.{needs}
 use Rattle.script_main.proofs.run.Statement.{statement}
