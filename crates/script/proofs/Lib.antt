@@ -1,0 +1,3 @@
+pub mod Acts
+pub mod Says
+pub mod Only

@@ -1,0 +1,104 @@
+-- A line of a script run on a table, and what is printed for it (the rules, section "Script"). Bytes are ASCII. Assumes nothing.
+use Prim.Native.Nat.{ℕ, _+_}
+use mathlib.Core.Bool.{cond}
+use mathlib.Core.List.{List, [], _∷_, _++_}
+use lib.ListN.{length}
+use lib.Dec.{leb}
+use Rattle.lists.specs.Put.{put}
+use Rattle.refusal.specs.Refusals.{numberOf}
+use Rattle.keys.specs.Keys.{keyOf}
+use Rattle.text.specs.Text.{decimal, keyText, Told, ends-at, toldOf, written}
+use Rattle.text.specs.Text as text
+use Rattle.table.specs.Table.{Table}
+use Rattle.table.specs.Calls.{Said, said-key, said-value, said-pair, said-done, said-count, said-truth, refused, Out, len}
+use Rattle.table.specs.Steps.{step}
+use Rattle.commands.specs.Lines.{Asked, asks, asks-len, rejects, asked}
+use Rattle.script.specs.declared.Answer.{Answer}
+use Rattle.script.specs.declared.Answer.the-variants.{Key, Value, Done, Count, Refused}
+use Rattle.text.specs.declared.Written.{Written}
+
+-- "C=1,000"
+abbrev pub capacity : ℕ
+capacity = 1000
+
+-- what an answer of the code says on paper
+abbrev pub answerSaid : Answer → Said
+answerSaid (Key k) = said-key k
+answerSaid (Value x) = said-value x
+answerSaid Done = said-done
+answerSaid (Count m) = said-count m
+answerSaid (Refused r) = refused (numberOf r)
+
+-- an answer with the table after the command
+abbrev pub acted : Said → Table → Out
+acted said t = (said, t)
+
+-- ---- what a line does
+
+-- a call of the table, the number of its elements, or a refusal that touches nothing
+unfoldable pub answered : Table → Asked → Out
+answered t (asks c) = step t c
+answered t asks-len = (len t, t)
+answered t (rejects r) = (refused r, t)
+
+-- ---- what is printed
+
+-- `ok`, and `refused ` with its space
+abbrev pub okText : List ℕ
+okText = 111 ∷ 107 ∷ []
+
+abbrev pub refusedText : List ℕ
+refusedText = 114 ∷ 101 ∷ 102 ∷ 117 ∷ 115 ∷ 101 ∷ 100 ∷ 32 ∷ []
+
+abbrev pub newline : ℕ
+newline = 10
+
+-- "success prints key, value, value, value, `ok`, n; refusals print `refused ` and the number"; no line of a script is answered otherwise
+unfoldable pub answerText : Said → List ℕ
+answerText (said-key k) = keyText (keyOf k)
+answerText (said-value x) = decimal x
+answerText said-done = okText
+answerText (said-count m) = decimal m
+answerText (refused r) = refusedText ++ decimal r
+answerText (said-pair k x) = []
+answerText (said-truth b) = []
+
+-- "a newline after each"
+unfoldable pub lineOut : Said → List ℕ
+lineOut a = answerText a ++ (newline ∷ [])
+
+-- ---- the same in a lent buffer
+
+-- the bytes of the longest line that is printed: index and version of ten digits each, `v` and the newline
+abbrev pub room : ℕ
+room = 22
+
+-- a text written after one that was told to end at a place; after a refusal, nothing
+abbrev pub thenTold : Told → List ℕ → List ℕ → Told × List ℕ
+thenTold (ends-at n) t b = written n t b
+thenTold (text.refused r) t b = (text.refused r, b)
+
+-- an answer printed into the buffer b from a place on: the place after it, and the buffer with the line put in. The room for the longest
+-- line is judged first: "output array or buffer too short" is 6, and nothing is written
+unfoldable pub spoken : Said → ℕ → List ℕ → Told × List ℕ
+spoken a at b = cond (leb (at + room) (length b)) (ends-at (at + length (lineOut a)), put b at (lineOut a)) (text.refused 6, b)
+
+-- where a text was told to end; 0 of a refusal
+abbrev pub endOf : Told → ℕ
+endOf (ends-at n) = n
+endOf (text.refused r) = 0
+
+-- a line's outcome: where the printed text ends, the table and the buffer
+abbrev pub Run : Type 0
+Run = Told × (Table × List ℕ)
+
+abbrev pub ranOf : Written → Table → List ℕ → Run
+ranOf w t b = (toldOf w, (t, b))
+
+-- the answer o, printed into the buffer b from a place on
+abbrev pub shown : Out → ℕ → List ℕ → Run
+shown o at b = (ends-at (at + length (lineOut (o .0))), (o .1, put b at (lineOut (o .0))))
+
+-- a line run on a table, its answer printed into the buffer b from a place on; where the buffer has no room, nothing is done
+unfoldable pub ran : Table → List ℕ → ℕ → List ℕ → Run
+ran t line at b = cond (leb (at + room) (length b)) (shown (answered t (asked line)) at b) (text.refused 6, (t, b))

@@ -1,0 +1,250 @@
+// The lines of a script, run on a table: what a line asks for is done by the table's calls, and the answer is written as one line of text.
+ghost use mathlib.Core.Path.{_≡_};
+ghost use mathlib.Core.List.{[], _∷_, _++_};
+ghost use Prim.Native.Nat.{_+_, _≤_};
+ghost use lib.Dec.{leb};
+ghost use lib.ListN.{length};
+ghost use Rattle.refusal.specs.Refusals.{numberOf};
+ghost use Rattle.text.specs.Text.{decimal, toldOf, outcome, written};
+ghost use Rattle.dense.specs.Lent.{before, after};
+ghost use Rattle.dense.specs.Answers.{valueSaid, issuedSaid, countSaid, doneSaid};
+ghost use Rattle.commands.specs.Lines.{askedOf};
+ghost use Rattle.script.specs.Script.{answerSaid, acted, answered, refusedText, newline, room, thenTold, spoken, endOf, ranOf, ran};
+use commands::Command;
+use commands::parse;
+use dense::Counted;
+use dense::Found;
+use dense::Issued;
+use dense::Verdict;
+use dense::len;
+use dense::lookup;
+use dense_enter::insert;
+use dense_enter::reattach;
+use dense_leave::detach;
+use dense_leave::remove;
+use keys::KeyData;
+use refusal::Refusal;
+use table::Header;
+use text::Written;
+use text::write_bytes;
+use text::write_decimal;
+use text::write_key;
+
+// How many elements the script's table may have.
+pub const CAPACITY: usize = 1000;
+
+// How many bytes the longest line of output has: an index and a version of ten digits each, the letter and the newline.
+pub const ROOM: usize = 22;
+
+// What a command answers.
+pub enum Answer {
+    Key(u64),
+    Value(u64),
+    Done,
+    Count(u32),
+    Refused(Refusal),
+}
+
+pub struct Acted {
+    pub header: Header,
+    pub answer: Answer,
+}
+
+// The header after a line, and where the text of its answer ends.
+pub struct Ran {
+    pub header: Header,
+    pub end: Written,
+}
+
+fn of_key(issued: Issued) -> Answer
+    ensures { λ r. ⌜ answerSaid r ≡ issuedSaid issued ⌝ }
+{
+    match issued {
+        Issued::Key(k) => Answer::Key(k),
+        Issued::Refused(r) => Answer::Refused(r),
+    }
+}
+
+fn of_value(found: Found) -> Answer
+    ensures { λ r. ⌜ answerSaid r ≡ valueSaid found ⌝ }
+{
+    match found {
+        Found::Value(x) => Answer::Value(x),
+        Found::Refused(r) => Answer::Refused(r),
+    }
+}
+
+fn of_verdict(verdict: Verdict) -> Answer
+    ensures { λ r. ⌜ answerSaid r ≡ doneSaid verdict ⌝ }
+{
+    match verdict {
+        Verdict::Done => Answer::Done,
+        Verdict::Refused(r) => Answer::Refused(r),
+    }
+}
+
+fn of_count(counted: Counted) -> Answer
+    ensures { λ r. ⌜ answerSaid r ≡ countSaid counted ⌝ }
+{
+    match counted {
+        Counted::Count(n) => Answer::Count(n),
+        Counted::Refused(r) => Answer::Refused(r),
+    }
+}
+
+// Does what a command asks for.
+pub fn act(
+    h: Header,
+    versions: &mut [u32],
+    links: &mut [u32],
+    keys: &mut [u64],
+    values: &mut [u64],
+    command: Command,
+) -> Acted
+    ensures { λ r. ⌜ acted (answerSaid (r .answer)) (after versions links keys values (r .header)) ≡ answered (before versions links keys values h) (askedOf command) ⌝ }
+{
+    match command {
+        Command::Insert(x) => {
+            let did = insert(h, versions, links, keys, values, x);
+            let g = did.header;
+            let a = did.answer;
+            Acted {
+                header: g,
+                answer: of_key(a),
+            }
+        }
+        Command::Get(k) => Acted {
+            header: h,
+            answer: of_value(lookup(h, versions, links, keys, values, k)),
+        },
+        Command::Remove(k) => {
+            let did = remove(h, versions, links, keys, values, k);
+            let g = did.header;
+            let a = did.answer;
+            Acted {
+                header: g,
+                answer: of_value(a),
+            }
+        }
+        Command::Detach(k) => {
+            let did = detach(h, versions, links, keys, values, k);
+            let g = did.header;
+            let a = did.answer;
+            Acted {
+                header: g,
+                answer: of_value(a),
+            }
+        }
+        Command::Reattach(k, x) => {
+            let did = reattach(h, versions, links, keys, values, k, x);
+            let g = did.header;
+            let a = did.answer;
+            Acted {
+                header: g,
+                answer: of_verdict(a),
+            }
+        }
+        Command::Len => Acted {
+            header: h,
+            answer: of_count(len(h, versions, links, keys, values)),
+        },
+        Command::Refused(r) => Acted {
+            header: h,
+            answer: Answer::Refused(r),
+        },
+    }
+}
+
+// The newline after a text, unless the text was refused.
+fn end_line(w: Written, out: &mut [u8]) -> Written
+    ensures { λ r. ⌜ outcome r (now (out .exit)) ≡ thenTold (toldOf w) (newline ∷ []) (now (out .entry)) ⌝ }
+{
+    match w {
+        Written::End(n) => write_bytes(b"\n", n, out),
+        Written::Refused(r) => Written::Refused(r),
+    }
+}
+
+// Whether the longest line fits from a place on into a buffer of this size. The place and the room are never added: their sum may not fit a usize.
+fn has_room(at: usize, size: usize) -> bool
+    ensures { λ r. ⌜ r ≡ leb (at + room) size ⌝ }
+{
+    if size < at {
+        return false;
+    }
+    ROOM <= size - at
+}
+
+// A refusal's text.
+fn write_refusal(refusal: Refusal, at: usize, out: &mut [u8]) -> Written
+    requires { ⌜ at + room ≤ length (now out) ⌝ }
+    ensures { λ r. ⌜ outcome r (now (out .exit)) ≡ written at (refusedText ++ decimal (numberOf refusal)) (now (out .entry)) ⌝ }
+{
+    match write_bytes(b"refused ", at, out) {
+        Written::End(n) => {
+            let number = refusal.number();
+            write_decimal(number as u64, n, out)
+        }
+        Written::Refused(r) => Written::Refused(r),
+    }
+}
+
+// Writes an answer as one line, from a place of a buffer on. The line is never longer than the room.
+pub fn say(answer: Answer, at: usize, out: &mut [u8]) -> Written
+    ensures { λ r. ⌜ (outcome r (now (out .exit)) ≡ spoken (answerSaid answer) at (now (out .entry))) × (endOf (toldOf r) ≤ at + room) ⌝ }
+{
+    if !has_room(at, out.len()) {
+        return Written::Refused(Refusal::Short);
+    }
+    match answer {
+        Answer::Key(k) => {
+            let w = write_key(KeyData::from_ffi(k), at, out);
+            end_line(w, out)
+        }
+        Answer::Value(x) => {
+            let w = write_decimal(x, at, out);
+            end_line(w, out)
+        }
+        Answer::Done => {
+            let w = write_bytes(b"ok", at, out);
+            end_line(w, out)
+        }
+        Answer::Count(n) => {
+            let w = write_decimal(n as u64, at, out);
+            end_line(w, out)
+        }
+        Answer::Refused(r) => {
+            let w = write_refusal(r, at, out);
+            end_line(w, out)
+        }
+    }
+}
+
+// Runs one line, given without its newline, and writes its answer from a place of a buffer on. The room for the longest answer is judged
+// first, so a refusal for want of room leaves the table as it was.
+pub fn run_line(
+    h: Header,
+    versions: &mut [u32],
+    links: &mut [u32],
+    keys: &mut [u64],
+    values: &mut [u64],
+    line: &[u8],
+    at: usize,
+    out: &mut [u8],
+) -> Ran
+    ensures { λ r. ⌜ (ranOf (r .end) (after versions links keys values (r .header)) (now (out .exit)) ≡ ran (before versions links keys values h) (now (line .entry)) at (now (out .entry))) × (endOf (toldOf (r .end)) ≤ at + room) ⌝ }
+{
+    if !has_room(at, out.len()) {
+        return Ran {
+            header: h,
+            end: Written::Refused(Refusal::Short),
+        };
+    }
+    let did = act(h, versions, links, keys, values, parse(line));
+    let g = did.header;
+    let a = did.answer;
+    Ran {
+        header: g,
+        end: say(a, at, out),
+    }
+}

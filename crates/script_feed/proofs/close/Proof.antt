@@ -1,0 +1,44 @@
+-- `close` runs the bytes that are held; the room it asks for is there. Assumes nothing.
+use mathlib.Core.Path.{sym}
+use native.Mathlib.Omega.{arith}
+use lib.Seq.{length-take-le}
+use borrow.Author.Needs.{needs}
+use Rattle.script_feed.proofs.Steps.{ends-within, closes, closes-always}
+use Rattle.script_feed.proofs.close.Statement.{statement}
+use Rattle.script_feed.proofs.close.Tie as tie
+
+slice-aggregate-run-line : tie.Need-slice-aggregate-run-line
+slice-aggregate-run-line c =
+    let pre = c .before .before .before .before .before .before .before .before .before .before .before .pre in
+    sym (length-take-le _ _ (omega (arith, pre .long, pre .within)))
+
+returns : tie.Need-returns
+returns c =
+    let ran = c .before .before .before .before .before .before .before .before .before .before .before .before .before .before in
+    (closes _ _ _ _ (ran .before .before .before .before .before .before .before .before .before .before .before .before .before .pre .roomy) (ran .run-line .ensures .0) (c .before .end .given .1), ends-within (c .before .end .given .1) (ran .run-line .ensures .1))
+
+returns-2 : tie.Need-returns-2
+returns-2 c =
+    let ran = c .before .before .before .before .before .before .before .before .before .before .before .before .before in
+    absurd (closes-always _ _ _ _ _ _ (ran .before .before .before .before .before .before .before .before .before .before .before .before .before .pre .roomy) (ran .run-line .ensures .0) (c .enum-told .given .1))
+
+pub close-spec : {M : Type 1} → statement M
+close-spec =
+    tie.close
+    (tie.spec
+    slice-aggregate-run-line
+    (λ c κs. search needs)
+    (λ c. search needs)
+    (λ c. search needs)
+    (λ c. search needs)
+    (λ c. search needs)
+    (λ c. search needs)
+    (λ c. search needs)
+    (λ c. search needs)
+    returns
+    (λ c. search needs)
+    (λ c. search needs)
+    (λ c. search needs)
+    (λ c. search needs)
+    (λ c. search needs)
+    returns-2)
