@@ -1,12 +1,13 @@
 // Random bent tables and calls through the real code. The input is a seed and a count of rounds; nothing else is read. The lines to write are those
 // of a second program, which makes the same tables and answers from a plain reading of the rules.
+mod answers;
+mod bends;
 mod draws;
+mod images;
 mod lines;
 mod maps;
+mod plan;
 mod tables;
-
-use crate::draws::draw;
-use crate::draws::mix;
 
 struct Asked {
     seed: u64,
@@ -36,7 +37,7 @@ fn taken(asked: Asked, b: u8) -> Asked {
 }
 
 // Two decimal numbers with a space between them.
-fn asked(text: &[u8]) -> Asked {
+fn read_asked(text: &[u8]) -> Asked {
     let mut now = Asked { seed: 0, rounds: 0 };
     let mut i = 0;
     while i < text.len() {
@@ -47,7 +48,7 @@ fn asked(text: &[u8]) -> Asked {
 }
 
 fn round(versions: &mut [u32], links: &mut [u32], keys: &mut [u64], values: &mut [u64], g: u64) {
-    if draw(g, 91, 3) == 0 {
+    if g % 3 == 0 {
         maps::round(versions, values, g);
         return;
     }
@@ -59,13 +60,18 @@ fn run(
     links: &mut [u32],
     keys: &mut [u64],
     values: &mut [u64],
-    seed: u64,
-    rounds: u64,
+    asked: Asked,
 ) {
-    let mut turns = rounds;
+    let mut turns = asked.rounds;
     while turns > 0 {
         turns -= 1;
-        round(versions, links, keys, values, mix(mix(seed, turns), turns));
+        round(
+            versions,
+            links,
+            keys,
+            values,
+            draws::word(asked.seed, turns),
+        );
     }
 }
 
@@ -76,13 +82,11 @@ fn main() {
     let mut values = [0u64; 4100];
     let mut buf = io::buffer();
     let n = io::read_full(0, &mut buf);
-    let now = asked(&buf[..n]);
     run(
         &mut versions,
         &mut links,
         &mut keys,
         &mut values,
-        now.seed,
-        now.rounds,
+        read_asked(&buf[..n]),
     );
 }
