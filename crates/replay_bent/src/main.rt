@@ -1,12 +1,5 @@
 // Random bent tables and calls through the real code. The input is a seed and a count of rounds; nothing else is read. The lines to write are those
 // of a second program, which makes the same tables and answers from a plain reading of the rules.
-mod answers;
-mod bends;
-mod draws;
-mod images;
-mod lines;
-mod maps;
-mod plan;
 mod tables;
 
 struct Asked {
@@ -17,7 +10,7 @@ struct Asked {
 // Ten times a number and a digit more, wrapping.
 fn digit(number: u64, b: u8) -> u64 {
     let ten = std::num::wrapping_add_u64(number << 3, number << 1);
-    std::num::wrapping_add_u64(ten, draws::wide8(b) % 16)
+    std::num::wrapping_add_u64(ten, bent_draws::wide8(b) % 16)
 }
 
 fn taken(asked: Asked, b: u8) -> Asked {
@@ -49,7 +42,7 @@ fn read_asked(text: &[u8]) -> Asked {
 
 fn round(versions: &mut [u32], links: &mut [u32], keys: &mut [u64], values: &mut [u64], g: u64) {
     if g % 3 == 0 {
-        maps::round(versions, values, g);
+        bent_maps::round(versions, values, g);
         return;
     }
     tables::round(versions, links, keys, values, g);
@@ -70,7 +63,7 @@ fn run(
             links,
             keys,
             values,
-            draws::word(asked.seed, turns),
+            bent_draws::word(asked.seed, turns),
         );
     }
 }

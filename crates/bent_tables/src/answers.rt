@@ -1,11 +1,11 @@
 // The answers of the dense table's calls, each as what was said and the header after it.
-use crate::draws::count;
-use crate::draws::mix;
-use crate::draws::wide;
-use crate::lines::Said;
-use crate::lines::accepted;
-use crate::lines::refused;
-use crate::lines::truth;
+use bent_draws::Said;
+use bent_draws::accepted;
+use bent_draws::count;
+use bent_draws::mix;
+use bent_draws::refused;
+use bent_draws::truth;
+use bent_draws::wide;
 use dense::Changed;
 use dense::Counted;
 use dense::Found;

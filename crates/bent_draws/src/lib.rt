@@ -1,4 +1,24 @@
-// Numbers drawn from a seed, and small work on arrays. The program that answers from the plain reading of the rules draws the same numbers.
+// The comparison on bent tables: numbers drawn from a seed, the plan of a round, and its lines. The program that answers from the plain reading
+// of the rules draws the same numbers.
+mod lines;
+mod plan;
+
+pub use lines::Said;
+pub use lines::accepted;
+pub use lines::line;
+pub use lines::refused;
+pub use lines::truth;
+pub use plan::AGE;
+pub use plan::BEND;
+pub use plan::START;
+pub use plan::bent;
+pub use plan::bent_length;
+pub use plan::builds;
+pub use plan::calls;
+pub use plan::capacity;
+pub use plan::kind;
+pub use plan::map_kind;
+pub use plan::rule;
 
 pub fn mix(h: u64, x: u64) -> u64 {
     let a = std::num::wrapping_add_u64(h, x);

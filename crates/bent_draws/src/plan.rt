@@ -1,8 +1,8 @@
 // The plan of a round, read off one number w: the table's capacity, and how it is built, bent and called. Turns are counted down: the last
 // ones are calls, those before bends, those before build a table up, and the first starts it.
-use crate::draws::narrow;
-use crate::draws::value;
-use crate::draws::word;
+use crate::narrow;
+use crate::value;
+use crate::word;
 use rules::Rule;
 
 // The turns that are no calls.

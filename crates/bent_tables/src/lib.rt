@@ -1,18 +1,35 @@
-// How a table is started, and how it is bent.
-use crate::answers::started;
-use crate::draws::at32;
-use crate::draws::at64;
-use crate::draws::below;
-use crate::draws::count;
-use crate::draws::edge;
-use crate::draws::fill32;
-use crate::draws::fill64;
-use crate::draws::narrow;
-use crate::draws::set32;
-use crate::draws::set64;
-use crate::draws::wide;
-use crate::draws::word;
-use crate::plan::AGE;
+// The comparison on bent tables: the answers of the dense table's calls, keys to ask for, and how a table is started and bent.
+mod answers;
+
+pub use answers::After;
+pub use answers::changed;
+pub use answers::counted;
+pub use answers::found;
+pub use answers::inserted;
+pub use answers::issued;
+pub use answers::length;
+pub use answers::removed;
+pub use answers::started;
+pub use answers::stepped;
+pub use answers::tested;
+pub use answers::verdict;
+pub use answers::written;
+use bent_draws::AGE;
+use bent_draws::at32;
+use bent_draws::at64;
+use bent_draws::below;
+use bent_draws::count;
+use bent_draws::edge;
+use bent_draws::fill32;
+use bent_draws::fill64;
+use bent_draws::narrow;
+use bent_draws::pack;
+use bent_draws::set32;
+use bent_draws::set64;
+use bent_draws::slot_key;
+use bent_draws::twist;
+use bent_draws::wide;
+use bent_draws::word;
 use table::Header;
 
 fn bent_version(target: u64, version: u32, x: u32, d: u64) -> u32 {
@@ -186,4 +203,44 @@ pub fn start(
     let empty = Header { n: 0, s: 1, f: 1 };
     let after = started(empty, dense::fresh(versions, links, keys, values));
     after.header
+}
+
+// ---- keys to ask for
+
+// The first slot with a detached slot's link; the count of slots where there is none.
+fn first_detached(links: &[u32]) -> u64 {
+    let mut i = 0;
+    while i < links.len() {
+        if links[i] == u32::MAX {
+            return count(i);
+        }
+        i += 1;
+    }
+    count(i)
+}
+
+fn pick_kind(kind: u64, d: u64) -> u64 {
+    if kind == 11 { 9 } else { d % 11 }
+}
+
+// A key to ask for; for the first of reattach's three kinds a detached one, where there is any.
+pub fn pick(h: Header, versions: &[u32], links: &[u32], keys: &[u64], kind: u64, e: u64) -> u64 {
+    let d = word(e, 1);
+    let k = pick_kind(kind, d);
+    if k < 6 {
+        return twist(at64(keys, below(d >> 8, wide(h.n))), d >> 40);
+    }
+    if k < 9 {
+        return twist(
+            slot_key(versions, below(d >> 8, wide(h.s)), d >> 32),
+            d >> 40,
+        );
+    }
+    if k == 9 {
+        return twist(slot_key(versions, first_detached(links), d >> 32), d >> 40);
+    }
+    pack(
+        wide(edge(h.n, h.s, keys.len(), d >> 16)),
+        ((d >> 8) % 4) as u32,
+    )
 }

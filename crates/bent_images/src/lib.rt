@@ -1,15 +1,15 @@
 // The calls on the slot image.
-use crate::answers::After;
-use crate::answers::length;
-use crate::answers::started;
-use crate::answers::written;
-use crate::draws::at8;
-use crate::draws::below;
-use crate::draws::count;
-use crate::draws::mix_bytes;
-use crate::draws::set8;
-use crate::draws::word;
-use crate::lines::Said;
+use bent_draws::Said;
+use bent_draws::at8;
+use bent_draws::below;
+use bent_draws::count;
+use bent_draws::mix_bytes;
+use bent_draws::set8;
+use bent_draws::word;
+use bent_tables::After;
+use bent_tables::length;
+use bent_tables::started;
+use bent_tables::written;
 use table::Header;
 
 // One byte less than the image takes, as many, or one more, if the buffer is as long.
@@ -137,12 +137,12 @@ fn first_aim(k: u64) -> u64 {
     if k == 3 { 1 } else { u64::MAX }
 }
 
+// The end of the bytes, one byte sooner or later for two of the kinds, and at most the buffer's.
 fn bent_end(end: u64, k: u64) -> usize {
-    match k {
-        4 => std::num::wrapping_sub_u64(end, 1) as usize,
-        5 => std::num::wrapping_add_u64(end, 1) as usize,
-        _ => end as usize,
-    }
+    let less = if k == 4 { 1 } else { 0 };
+    let more = if k == 5 { 1 } else { 0 };
+    let bent = std::num::wrapping_add_u64(std::num::wrapping_sub_u64(end, less), more);
+    if bent > 160 { 160 } else { bent as usize }
 }
 
 fn bend_bytes(bytes: &mut [u8], end: u64, d: u64) -> usize {
@@ -182,7 +182,13 @@ fn rebuild_in(
     end: usize,
 ) -> After {
     if end > bytes.len() {
-        return started(h, image_read::rebuild(versions, links, keys, values, bytes));
+        return After {
+            header: h,
+            said: Said {
+                refused: 0,
+                answer: 0,
+            },
+        };
     }
     started(
         h,

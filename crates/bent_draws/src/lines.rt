@@ -1,5 +1,5 @@
 // What a call said, and its line: the call's letter, the refusal's number or 0, and eight digits of a digest of all that it left.
-use crate::draws::wide;
+use crate::wide;
 use libc::STDOUT_FILENO;
 use refusal::Refusal;
 
