@@ -31,10 +31,14 @@ use table::Header;
 // ---- disjoint
 
 fn wanted_keys(keys: &[u64], n: u64, wanted: &mut [u64], first: u64) {
-    let mut i = 0;
-    while i < wanted.len() {
-        wanted[i] = at64(keys, below(std::num::wrapping_add_u64(first, count(i)), n));
-        i += 1;
+    let mut turns = count(wanted.len());
+    while turns > 0 {
+        turns -= 1;
+        set64(
+            wanted,
+            turns,
+            at64(keys, below(std::num::wrapping_add_u64(first, turns), n)),
+        );
     }
 }
 

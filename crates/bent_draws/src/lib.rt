@@ -180,17 +180,17 @@ pub fn mix64(h: u64, a: &[u64]) -> u64 {
 
 // Noise over a whole array; a mask of 0 gives every element the same number.
 pub fn fill32(a: &mut [u32], g: u64, mask: u64) {
-    let mut i = 0;
-    while i < a.len() {
-        a[i] = narrow(value(word(g, count(i) & mask)));
-        i += 1;
+    let mut turns = count(a.len());
+    while turns > 0 {
+        turns -= 1;
+        set32(a, turns, narrow(value(word(g, turns & mask))));
     }
 }
 
 pub fn fill64(a: &mut [u64], g: u64, mask: u64) {
-    let mut i = 0;
-    while i < a.len() {
-        a[i] = keyish(word(g, count(i) & mask));
-        i += 1;
+    let mut turns = count(a.len());
+    while turns > 0 {
+        turns -= 1;
+        set64(a, turns, keyish(word(g, turns & mask)));
     }
 }

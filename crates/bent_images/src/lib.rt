@@ -89,10 +89,10 @@ fn scratch(i: u64, d: u64) -> u8 {
 }
 
 fn fill8(a: &mut [u8], e: u64) {
-    let mut i = 0;
-    while i < a.len() {
-        a[i] = scratch(count(i), word(e, count(i)));
-        i += 1;
+    let mut turns = count(a.len());
+    while turns > 0 {
+        turns -= 1;
+        set8(a, turns, scratch(turns, word(e, turns)));
     }
 }
 

@@ -230,14 +230,18 @@ fn place(d: u64) -> u32 {
 // ---- disjoint
 
 fn wanted_keys(versions: &[u32], s: u64, wanted: &mut [u64], first: u64) {
-    let mut i = 0;
-    while i < wanted.len() {
-        wanted[i] = slot_key(
-            versions,
-            below(std::num::wrapping_add_u64(first, count(i)), s),
-            0,
+    let mut turns = count(wanted.len());
+    while turns > 0 {
+        turns -= 1;
+        set64(
+            wanted,
+            turns,
+            slot_key(
+                versions,
+                below(std::num::wrapping_add_u64(first, turns), s),
+                0,
+            ),
         );
-        i += 1;
     }
 }
 
