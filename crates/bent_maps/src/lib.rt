@@ -42,7 +42,6 @@ use secondary_edit::Insertion;
 use secondary_edit::Removal;
 use secondary_sweep::Sweep;
 use secondary_sweep::Swept;
-use table::Header;
 
 const LETTERS: [u8; 20] = *b"GCPIIIIIRRTTYYKZJJSL";
 
@@ -401,17 +400,12 @@ fn turn(
     let length = std::num::wrapping_add_usize(capacity(w), 1);
     let a = bent_length(length, 0, w, at);
     let v = bent_length(length, 1, w, at);
+    let kind = map_kind(w, at, e);
+    let shown = at < calls(w);
     if a > versions.len() || v > values.len() {
         return h;
     }
-    step(
-        h,
-        &mut versions[..a],
-        &mut values[..v],
-        map_kind(w, at, e),
-        at < calls(w),
-        e,
-    )
+    step(h, &mut versions[..a], &mut values[..v], kind, shown, e)
 }
 
 pub fn round(versions: &mut [u32], values: &mut [u64], g: u64) {

@@ -125,6 +125,8 @@ fn turn(
     let b = bent_length(slots, 1, w, at);
     let p = bent_length(c, 2, w, at);
     let v = bent_length(c, 3, w, at);
+    let k = kind(w, c, at, e);
+    let shown = at < calls(w);
     if a > versions.len() || b > links.len() || p > keys.len() || v > values.len() {
         return h;
     }
@@ -134,8 +136,8 @@ fn turn(
         &mut links[..b],
         &mut keys[..p],
         &mut values[..v],
-        kind(w, c, at, e),
-        at < calls(w),
+        k,
+        shown,
         e,
     )
 }
