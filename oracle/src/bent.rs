@@ -37,17 +37,29 @@ fn word(g: u64, salt: u64) -> u64 {
 
 /// A number below k; 0 where k is 0.
 fn below(d: u64, k: u64) -> u64 {
-    if k == 0 { 0 } else { d % k }
+    if k == 0 {
+        0
+    } else {
+        d % k
+    }
 }
 
 /// Half of them small, so that rules and keys meet them.
 fn value(d: u64) -> u64 {
-    if d % 2 == 0 { (d >> 8) % 8 } else { d }
+    if d % 2 == 0 {
+        (d >> 8) % 8
+    } else {
+        d
+    }
 }
 
 /// A stored number that looks like a key, or none at all.
 fn keyish(d: u64) -> u64 {
-    if d % 4 == 0 { d } else { pack(((d >> 8) % 8) as u32, ((d >> 16) % 6) as u32) }
+    if d % 4 == 0 {
+        d
+    } else {
+        pack(((d >> 8) % 8) as u32, ((d >> 16) % 6) as u32)
+    }
 }
 
 /// A header number, link or index at an edge.
@@ -59,7 +71,13 @@ fn edge(n: u32, s: u32, c: usize, d: u64) -> u32 {
     if k > 9 {
         return ((d >> 8) % 8) as u32;
     }
-    let x = if k < 4 { s } else if k < 7 { n } else { c as u32 };
+    let x = if k < 4 {
+        s
+    } else if k < 7 {
+        n
+    } else {
+        c as u32
+    };
     x.wrapping_add(((d >> 8) % 3) as u32).wrapping_sub(1)
 }
 
@@ -151,7 +169,11 @@ fn rule(d: u64) -> Rule {
 
 fn capacity(w: u64) -> usize {
     let small = (w >> 40) % 4 + (w >> 44) % 4;
-    if (w >> 48) % 120 == 0 { 4095 + small as usize % 3 } else { small as usize }
+    if (w >> 48) % 120 == 0 {
+        4095 + small as usize % 3
+    } else {
+        small as usize
+    }
 }
 
 fn calls(w: u64) -> u64 {
@@ -164,7 +186,11 @@ fn bends(w: u64) -> u64 {
 
 /// A large table is filled, or has a few elements.
 fn builds(w: u64, c: usize) -> u64 {
-    if c > 100 && w % 2 == 0 { c as u64 } else { w % 20 }
+    if c > 100 && w % 2 == 0 {
+        c as u64
+    } else {
+        w % 20
+    }
 }
 
 /// The calls that build a table up, and now and then an aged slot.
@@ -220,11 +246,20 @@ fn bent_length(length: usize, which: u64, w: u64) -> usize {
 struct Report {
     out: Vec<u8>,
     counts: BTreeMap<(char, u32), usize>,
+    /// Calls on tables that are not sound and on maps that are not whole.
+    bent: usize,
 }
 
 impl Report {
     fn line(&mut self, letter: u8, said: Said, digest: u64) {
-        writeln!(self.out, "{}{} {:08x}", letter as char, said.0, digest >> 32).unwrap();
+        writeln!(
+            self.out,
+            "{}{} {:08x}",
+            letter as char,
+            said.0,
+            digest >> 32
+        )
+        .unwrap();
         *self.counts.entry((letter as char, said.0)).or_insert(0) += 1;
     }
 }
@@ -243,10 +278,13 @@ fn said<T>(r: Result<T, u32>, answer: impl Fn(T) -> u64) -> Said {
 
 /// The first slot with a detached slot's link; the count of slots where there is none.
 fn first_detached(links: &[u32]) -> u64 {
-    links.iter().position(|&link| link == MAX).unwrap_or(links.len()) as u64
+    links
+        .iter()
+        .position(|&link| link == MAX)
+        .unwrap_or(links.len()) as u64
 }
 
-/// A key to ask for; for the second turn number of reattach's three mostly a detached one.
+/// A key to ask for; for the first of reattach's three kinds a detached one, where there is any.
 fn pick(t: &Dense, kind: u64, e: u64) -> u64 {
     let d = word(e, 1);
     let k = if kind == 11 { 9 } else { d % 11 };
@@ -254,10 +292,16 @@ fn pick(t: &Dense, kind: u64, e: u64) -> u64 {
         return twist(at64(&t.keys, below(d >> 8, t.n as u64)), d >> 40);
     }
     if k < 9 {
-        return twist(slot_key(&t.versions, below(d >> 8, t.s as u64), d >> 32), d >> 40);
+        return twist(
+            slot_key(&t.versions, below(d >> 8, t.s as u64), d >> 32),
+            d >> 40,
+        );
     }
     if k == 9 {
-        return twist(slot_key(&t.versions, first_detached(&t.links), d >> 32), d >> 40);
+        return twist(
+            slot_key(&t.versions, first_detached(&t.links), d >> 32),
+            d >> 40,
+        );
     }
     pack(edge(t.n, t.s, t.keys.len(), d >> 16), ((d >> 8) % 4) as u32)
 }
@@ -275,11 +319,19 @@ fn bent_version(target: u64, version: u32, x: u32, d: u64) -> u32 {
 
 /// Where a slot's version is to change: nowhere (past the end) for other targets, and slot 0 does not age.
 fn version_aim(target: u64, i: u64) -> u64 {
-    if target == 3 || (target == 8 && i > 0) { i } else { u64::MAX }
+    if target == 3 || (target == 8 && i > 0) {
+        i
+    } else {
+        u64::MAX
+    }
 }
 
 fn link_aim(target: u64, i: u64) -> u64 {
-    if target == 4 || target == 5 { i } else { u64::MAX }
+    if target == 4 || target == 5 {
+        i
+    } else {
+        u64::MAX
+    }
 }
 
 fn place_aim(target: u64, p: u64, n: u64) -> u64 {
@@ -329,10 +381,18 @@ fn bend(t: &mut Dense, kind: u64, e: u64) {
     let p = below(d >> 8, n);
     let x = edge(t.n, t.s, t.keys.len(), d >> 24);
     let version = at32(&t.versions, i);
-    set32(&mut t.versions, version_aim(target, i), bent_version(target, version, x, d >> 40));
+    set32(
+        &mut t.versions,
+        version_aim(target, i),
+        bent_version(target, version, x, d >> 40),
+    );
     set32(&mut t.links, link_aim(target, i), x);
     let key = at64(&t.keys, p);
-    set64(&mut t.keys, place_aim(target, p, n), bent_key(target, key, x, d >> 40));
+    set64(
+        &mut t.keys,
+        place_aim(target, p, n),
+        bent_key(target, key, x, d >> 40),
+    );
     if target < 3 {
         bend_header(t, x, d >> 40);
     }
@@ -375,7 +435,10 @@ fn call_write_image(t: &Dense, e: u64) -> Said {
     let length = t.image_len().unwrap_or(0) as u64 + word(e, 56) % 3;
     let room = length.saturating_sub(1).min(BYTES as u64) as usize;
     let r = t.write_image(&mut bytes[..room]);
-    (r.err().unwrap_or(0), mix_bytes(r.unwrap_or(0) as u64, &bytes))
+    (
+        r.err().unwrap_or(0),
+        mix_bytes(r.unwrap_or(0) as u64, &bytes),
+    )
 }
 
 /// A byte as images have them, or one that breaks them.
@@ -395,7 +458,11 @@ fn scratch(i: u64, d: u64) -> u8 {
     if d % 16 == 0 {
         return tiny(d >> 16);
     }
-    if i % 2 == 0 { 0 } else { ((d >> 8) % 3 * 2) as u8 }
+    if i % 2 == 0 {
+        0
+    } else {
+        ((d >> 8) % 3 * 2) as u8
+    }
 }
 
 /// The bytes that a rebuild is given: the table's own image, bent or not, or a few bytes out of nothing. Answers their count.
@@ -415,7 +482,13 @@ fn image_bytes(t: &Dense, bytes: &mut [u8], e: u64) -> u64 {
     let k = (d >> 16) % 10;
     let i = below(d >> 24, end);
     let old = at8(bytes, i);
-    let new = if k < 3 { tiny(d >> 32) } else if k > 6 { old ^ 1 } else { old };
+    let new = if k < 3 {
+        tiny(d >> 32)
+    } else if k > 6 {
+        old ^ 1
+    } else {
+        old
+    };
     set8(bytes, i, new);
     set8(bytes, if k == 3 { 1 } else { u64::MAX }, 1);
     if k == 4 {
@@ -459,7 +532,13 @@ fn step(t: &mut Dense, kind: u64, e: u64) -> Said {
         22 => (0, t.is_sound() as u64),
         23 => said(t.image_len(), |n| n as u64),
         24 => call_write_image(t, e),
-        25 => (0, mix64(mix64(mix(0, t.key_list().len() as u64), t.key_list()), t.value_list())),
+        25 => (
+            0,
+            mix64(
+                mix64(mix(0, t.key_list().len() as u64), t.key_list()),
+                t.value_list(),
+            ),
+        ),
         26 | 27 => call_rebuild(t, e),
         START => {
             start(t, e);
@@ -473,8 +552,14 @@ fn step(t: &mut Dense, kind: u64, e: u64) -> Said {
 }
 
 fn digest(t: &Dense, said: Said) -> u64 {
-    let h = mix(mix(mix(mix(said.1, said.0 as u64), t.n as u64), t.s as u64), t.f as u64);
-    mix64(mix64(mix32(mix32(h, &t.versions), &t.links), &t.keys), &t.values)
+    let h = mix(
+        mix(mix(mix(said.1, said.0 as u64), t.n as u64), t.s as u64),
+        t.f as u64,
+    );
+    mix64(
+        mix64(mix32(mix32(h, &t.versions), &t.links), &t.keys),
+        &t.values,
+    )
 }
 
 struct Room {
@@ -485,7 +570,12 @@ struct Room {
 }
 
 /// A table over parts of the room, work on it, and the parts put back. Answers the header.
-fn lend(room: &mut Room, lengths: [usize; 4], header: [u32; 3], work: impl FnOnce(&mut Dense)) -> [u32; 3] {
+fn lend(
+    room: &mut Room,
+    lengths: [usize; 4],
+    header: [u32; 3],
+    work: impl FnOnce(&mut Dense),
+) -> [u32; 3] {
     let [a, b, k, v] = lengths;
     let mut t = Dense {
         versions: room.versions[..a].to_vec(),
@@ -518,11 +608,17 @@ fn dense_round(room: &mut Room, g: u64, report: &mut Report) {
             step(t, kind(w, c, turn, e), e);
         }
     });
-    let lengths = [bent_length(c + 1, 0, w), bent_length(c + 1, 1, w), bent_length(c, 2, w), bent_length(c, 3, w)];
+    let lengths = [
+        bent_length(c + 1, 0, w),
+        bent_length(c + 1, 1, w),
+        bent_length(c, 2, w),
+        bent_length(c, 3, w),
+    ];
     lend(room, lengths, header, |t| {
         for turn in (0..calls(w)).rev() {
             let e = turn_seed(g, turn);
             let kind = kind(w, c, turn, e);
+            report.bent += !t.is_sound() as usize;
             let said = step(t, kind, e);
             report.line(LETTERS[kind as usize], said, digest(t, said));
         }
@@ -535,7 +631,10 @@ fn map_pick(m: &Secondary, e: u64) -> u64 {
     let d = word(e, 1);
     let k = d % 8;
     if k < 5 {
-        return twist(slot_key(&m.versions, below(d >> 8, m.s as u64 + 1), d >> 32), d >> 40);
+        return twist(
+            slot_key(&m.versions, below(d >> 8, m.s as u64 + 1), d >> 32),
+            d >> 40,
+        );
     }
     if k < 7 {
         return pack(((d >> 8) % 9) as u32, ((d >> 16) % 4) as u32);
@@ -611,7 +710,9 @@ fn map_disjoint(m: &Secondary, key: u64, e: u64) -> Said {
 }
 
 fn stepped(r: Result<Option<(u64, u64, u32)>, u32>) -> Said {
-    said(r, |step| step.map_or(1, |(key, x, next)| mix(mix(mix(2, key), x), next as u64)))
+    said(r, |step| {
+        step.map_or(1, |(key, x, next)| mix(mix(mix(2, key), x), next as u64))
+    })
 }
 
 fn entered(r: Result<Entered, u32>) -> Said {
@@ -627,7 +728,11 @@ fn map_step(m: &mut Secondary, kind: u64, e: u64) -> Said {
     let key = map_pick(m, e);
     let d = word(e, 71);
     let x = value(d);
-    let place = if d % 8 == 0 { (d >> 32) as u32 } else { ((d >> 8) % 8) as u32 };
+    let place = if d % 8 == 0 {
+        (d >> 32) as u32
+    } else {
+        ((d >> 8) % 8) as u32
+    };
     match kind {
         0 => said(m.lookup(key), |x| x),
         1 => said(m.contains(key), |b| b as u64),
@@ -657,7 +762,13 @@ fn map_digest(m: &Secondary, said: Said) -> u64 {
     mix64(mix32(h, &m.versions), &m.values)
 }
 
-fn map_lend(room: &mut Room, a: usize, v: usize, header: [u32; 2], work: impl FnOnce(&mut Secondary)) -> [u32; 2] {
+fn map_lend(
+    room: &mut Room,
+    a: usize,
+    v: usize,
+    header: [u32; 2],
+    work: impl FnOnce(&mut Secondary),
+) -> [u32; 2] {
     let mut m = Secondary {
         versions: room.versions[..a].to_vec(),
         values: room.values[..v].to_vec(),
@@ -680,22 +791,38 @@ fn map_round(room: &mut Room, g: u64, report: &mut Report) {
             map_step(m, map_kind(w, turn, e), e);
         }
     });
-    map_lend(room, bent_length(length, 0, w), bent_length(length, 1, w), header, |m| {
-        for turn in (0..calls(w)).rev() {
-            let e = turn_seed(g, turn);
-            let kind = map_kind(w, turn, e);
-            let said = map_step(m, kind, e);
-            report.line(MAP_LETTERS[kind as usize], said, map_digest(m, said));
-        }
-    });
+    map_lend(
+        room,
+        bent_length(length, 0, w),
+        bent_length(length, 1, w),
+        header,
+        |m| {
+            for turn in (0..calls(w)).rev() {
+                let e = turn_seed(g, turn);
+                let kind = map_kind(w, turn, e);
+                report.bent += !m.is_whole() as usize;
+                let said = map_step(m, kind, e);
+                report.line(MAP_LETTERS[kind as usize], said, map_digest(m, said));
+            }
+        },
+    );
 }
 
 // ---- the rounds
 
 /// Writes a line for each call to standard output, and the counts of the answers by call and refusal to standard error.
 pub fn run(seed: u64, rounds: u64) {
-    let mut report = Report { out: Vec::new(), counts: BTreeMap::new() };
-    let mut room = Room { versions: vec![0; ROOM], links: vec![0; ROOM], keys: vec![0; ROOM], values: vec![0; ROOM] };
+    let mut report = Report {
+        out: Vec::new(),
+        counts: BTreeMap::new(),
+        bent: 0,
+    };
+    let mut room = Room {
+        versions: vec![0; ROOM],
+        links: vec![0; ROOM],
+        keys: vec![0; ROOM],
+        values: vec![0; ROOM],
+    };
     for round in (0..rounds).rev() {
         let g = word(seed, round);
         if g % 3 == 0 {
@@ -706,6 +833,7 @@ pub fn run(seed: u64, rounds: u64) {
     }
     std::io::stdout().write_all(&report.out).unwrap();
     show_counts(&report.counts);
+    eprintln!("{} of them on bent tables", report.bent);
 }
 
 fn show_counts(counts: &BTreeMap<(char, u32), usize>) {
@@ -717,10 +845,19 @@ fn show_counts(counts: &BTreeMap<(char, u32), usize>) {
     let head: Vec<String> = numbers.iter().map(|n| format!("{n:>6}")).collect();
     eprintln!("call {}", head.join(""));
     for letter in letters {
-        let row: Vec<String> = numbers.iter().map(|&n| format!("{:>6}", counts.get(&(letter, n)).unwrap_or(&0))).collect();
+        let row: Vec<String> = numbers
+            .iter()
+            .map(|&n| format!("{:>6}", counts.get(&(letter, n)).unwrap_or(&0)))
+            .collect();
         eprintln!("{letter}    {}", row.join(""));
     }
-    let sum = |n: u32| counts.iter().filter(|(&(_, m), _)| m == n).map(|(_, count)| count).sum::<usize>();
+    let sum = |n: u32| {
+        counts
+            .iter()
+            .filter(|(&(_, m), _)| m == n)
+            .map(|(_, count)| count)
+            .sum::<usize>()
+    };
     let sums: Vec<String> = numbers.iter().map(|&n| format!("{:>6}", sum(n))).collect();
     eprintln!("all  {}", sums.join(""));
     eprintln!("{} calls", counts.values().sum::<usize>());

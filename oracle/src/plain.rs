@@ -59,7 +59,10 @@ impl Dense {
 
     fn lengths_fit(&self) -> bool {
         let c = self.capacity();
-        c <= MOST && self.values.len() == c && self.versions.len() == c + 1 && self.links.len() == c + 1
+        c <= MOST
+            && self.values.len() == c
+            && self.versions.len() == c + 1
+            && self.links.len() == c + 1
     }
 
     /// Shape holds when the lengths fit, 1 ≤ s ≤ C+1, n ≤ s−1 and 1 ≤ f ≤ s.
@@ -70,7 +73,11 @@ impl Dense {
             && self.n <= self.s - 1
             && 1 <= self.f
             && self.f <= self.s;
-        if holds { Ok(()) } else { Err(1) }
+        if holds {
+            Ok(())
+        } else {
+            Err(1)
+        }
     }
 
     fn is_slot(&self, index: u32) -> bool {
@@ -269,7 +276,11 @@ impl Dense {
     /// What retain, clear and image writing ask for.
     fn asks_sound(&self) -> Result<(), u32> {
         self.shape()?;
-        if self.is_sound() { Ok(()) } else { Err(5) }
+        if self.is_sound() {
+            Ok(())
+        } else {
+            Err(5)
+        }
     }
 
     /// Walk from place 0; a dropped element is removed and the same place looked at again.
@@ -299,7 +310,10 @@ impl Dense {
         self.shape()?;
         let mut places = Vec::new();
         for (i, &number) in numbers.iter().enumerate() {
-            if numbers[..i].iter().any(|&earlier| read(earlier) == read(number)) {
+            if numbers[..i]
+                .iter()
+                .any(|&earlier| read(earlier) == read(number))
+            {
                 return Err(2);
             }
             places.push(self.place(read(number))? as u32);
@@ -313,12 +327,20 @@ impl Dense {
 
     /// The first n keys, or none if shape fails.
     pub fn key_list(&self) -> &[u64] {
-        if self.shape().is_err() { &[] } else { &self.keys[..self.n as usize] }
+        if self.shape().is_err() {
+            &[]
+        } else {
+            &self.keys[..self.n as usize]
+        }
     }
 
     /// The first n values, or none if shape fails.
     pub fn value_list(&self) -> &[u64] {
-        if self.shape().is_err() { &[] } else { &self.values[..self.n as usize] }
+        if self.shape().is_err() {
+            &[]
+        } else {
+            &self.values[..self.n as usize]
+        }
     }
 
     /// Sound, sentence by sentence.
@@ -340,7 +362,12 @@ impl Dense {
         }
         // Exactly n slots have odd versions.
         let slots = self.s as usize;
-        if self.versions[..slots].iter().filter(|&&version| version % 2 == 1).count() != self.n as usize {
+        if self.versions[..slots]
+            .iter()
+            .filter(|&&version| version % 2 == 1)
+            .count()
+            != self.n as usize
+        {
             return false;
         }
         // The list from f runs over vacant slots, each once, and ends at s.
@@ -354,7 +381,8 @@ impl Dense {
             at = self.links[at as usize];
         }
         // Each other slot from 1 up is either detached or on the list.
-        (1..slots).all(|slot| self.versions[slot] % 2 == 1 || self.links[slot] == MAX || listed[slot])
+        (1..slots)
+            .all(|slot| self.versions[slot] % 2 == 1 || self.links[slot] == MAX || listed[slot])
     }
 
     /// Image: s; then for each slot its version, presence 0 or 1, and the value if 1.
@@ -471,7 +499,10 @@ fn read_image(bytes: &[u8], capacity: usize) -> Result<Vec<(u32, Option<u64>)>, 
     if records.is_empty() || records[0].0 % 2 == 1 {
         return Err(13);
     }
-    if records[1..].iter().any(|(version, value)| (version % 2 == 1) != value.is_some()) {
+    if records[1..]
+        .iter()
+        .any(|(version, value)| (version % 2 == 1) != value.is_some())
+    {
         return Err(14);
     }
     Ok(records)
@@ -502,7 +533,11 @@ impl Secondary {
 
     /// Other calls than fresh judge lengths and s first.
     fn shape(&self) -> Result<(), u32> {
-        if self.lengths_fit() && 1 <= self.s && self.s as usize <= self.versions.len() { Ok(()) } else { Err(1) }
+        if self.lengths_fit() && 1 <= self.s && self.s as usize <= self.versions.len() {
+            Ok(())
+        } else {
+            Err(1)
+        }
     }
 
     /// A key is held where its slot has its version, as `get` in the Rust (slot 0 too).
@@ -564,7 +599,11 @@ impl Secondary {
             return Err(8);
         }
         let grown = self.s.max(index + 1);
-        let held = if index < self.s { self.versions[slot] } else { 0 };
+        let held = if index < self.s {
+            self.versions[slot]
+        } else {
+            0
+        };
         if held == 0 && self.count >= grown - 1 {
             return Err(5);
         }
@@ -611,7 +650,11 @@ impl Secondary {
         for slot in from.max(1)..self.s {
             let version = self.versions[slot as usize];
             if version != 0 {
-                return Ok(Some((pack(slot, version | 1), self.values[slot as usize], slot + 1)));
+                return Ok(Some((
+                    pack(slot, version | 1),
+                    self.values[slot as usize],
+                    slot + 1,
+                )));
             }
         }
         Ok(None)
@@ -632,13 +675,19 @@ impl Secondary {
             return false;
         }
         let slots = &self.versions[..self.s as usize];
-        slots.iter().all(|&version| version == 0 || version % 2 == 1)
+        slots
+            .iter()
+            .all(|&version| version == 0 || version % 2 == 1)
             && slots.iter().filter(|&&version| version != 0).count() == self.count as usize
     }
 
     fn asks_whole(&self) -> Result<(), u32> {
         self.shape()?;
-        if self.is_whole() { Ok(()) } else { Err(5) }
+        if self.is_whole() {
+            Ok(())
+        } else {
+            Err(5)
+        }
     }
 
     /// Retain takes the rules above and asks for the whole check.
@@ -665,7 +714,10 @@ impl Secondary {
         self.shape()?;
         let mut slots = Vec::new();
         for (i, &number) in numbers.iter().enumerate() {
-            if numbers[..i].iter().any(|&earlier| read(earlier) == read(number)) {
+            if numbers[..i]
+                .iter()
+                .any(|&earlier| read(earlier) == read(number))
+            {
                 return Err(2);
             }
             slots.push(self.slot(read(number))? as u32);
@@ -675,5 +727,117 @@ impl Secondary {
         }
         out[..numbers.len()].copy_from_slice(&slots);
         Ok(())
+    }
+}
+
+#[cfg(test)]
+mod tests {
+    use super::*;
+
+    fn table(c: usize) -> Dense {
+        let mut t = Dense {
+            versions: vec![9; c + 1],
+            links: vec![9; c + 1],
+            keys: vec![9; c],
+            values: vec![9; c],
+            n: 9,
+            s: 9,
+            f: 9,
+        };
+        t.fresh().unwrap();
+        t
+    }
+
+    fn image(t: &Dense) -> Vec<u8> {
+        let mut out = vec![0; t.image_len().unwrap()];
+        t.write_image(&mut out).unwrap();
+        out
+    }
+
+    #[test]
+    fn spells_of_the_table() {
+        let mut t = table(9);
+        assert_eq!(image(&t), [1, 0, 0]);
+        assert_eq!(t.insert(7), Ok(pack(1, 1)));
+        assert_eq!(t.insert(300), Ok(pack(2, 1)));
+        assert_eq!(image(&t), [3, 0, 0, 1, 1, 7, 1, 1, 0xac, 2]);
+        assert_eq!(t.remove(pack(1, 1)), Ok(7));
+        assert_eq!(image(&t), [3, 0, 0, 2, 0, 1, 1, 0xac, 2]);
+        assert_eq!(t.insert(9), Ok(12884901889));
+        assert_eq!(read(8589934597), pack(5, 3));
+    }
+
+    #[test]
+    fn spells_of_detached_slots_and_wrapping() {
+        let mut t = table(1);
+        let key = t.insert(5).unwrap();
+        assert_eq!(t.detach(key), Ok(5));
+        assert_eq!(t.insert(6), Err(3));
+        assert_eq!(t.reattach(key, 8), Ok(()));
+        assert_eq!(t.lookup(key), Ok(8));
+        let mut t = table(1);
+        t.insert(5).unwrap();
+        t.versions[1] = MAX;
+        t.keys[0] = pack(1, MAX);
+        assert!(t.is_sound());
+        assert_eq!(t.remove(pack(1, MAX)), Ok(5));
+        assert_eq!(t.versions[1], 0);
+        assert_eq!(t.insert(6), Ok(pack(1, 1)));
+    }
+
+    #[test]
+    fn spells_of_the_image() {
+        let mut t = table(9);
+        assert_eq!(t.rebuild(&[3, 0, 0, 2, 0, 4, 0]), Ok(()));
+        assert_eq!(t.f, 2);
+        assert_eq!(t.insert(1), Ok(pack(2, 5)));
+        assert_eq!(t.rebuild(&[1, 2, 1, 5]), Ok(()));
+        assert_eq!((t.n, t.s), (0, 1));
+        for (bytes, number) in [
+            (&[0][..], 13),
+            (&[0, 5], 15),
+            (&[1, 0x80, 0, 0], 11),
+            (&[11], 12),
+            (&[1, 0, 2], 16),
+            (&[1, 0, 0x80, 1], 16),
+            (&[1, 0x80, 0x80, 0x80, 0x80], 10),
+            (&[1, 0x80, 0x80, 0x80, 0x80, 0x80], 11),
+            (&[1, 0x80, 0x80, 0x80, 0x80, 0x10], 11),
+            (&[2, 0, 0, 1, 0], 14),
+            (&[2, 1, 0, 1, 0], 13),
+        ] {
+            assert_eq!(t.rebuild(bytes), Err(number));
+        }
+    }
+
+    #[test]
+    fn limits() {
+        let mut t = table(4096);
+        assert_eq!(t.insert(1), Ok(pack(1, 1)));
+        t.versions.push(0);
+        t.links.push(0);
+        t.keys.push(0);
+        t.values.push(0);
+        assert_eq!(t.insert(1), Err(1));
+        assert_eq!(t.fresh(), Err(1));
+        assert_eq!(table(0).insert(1), Err(3));
+    }
+
+    /// A list that passes an occupied slot, and a stored key without its low bit.
+    #[test]
+    fn bent_tables() {
+        let mut t = table(3);
+        t.versions = vec![0, 0, 1, 1];
+        t.links = vec![0, 4, 0, 1];
+        t.keys = vec![pack(2, 1), pack(3, 1), 0];
+        (t.n, t.s, t.f) = (2, 4, 3);
+        assert!(!t.is_sound());
+        assert_eq!(t.insert(1), Err(5));
+        let mut t = table(1);
+        t.versions = vec![0, 2];
+        t.links = vec![0, 0];
+        t.keys = vec![8589934593];
+        (t.n, t.s, t.f) = (1, 2, 2);
+        assert_eq!(t.drain_step(), Ok(Some((8589934593, 9))));
     }
 }
