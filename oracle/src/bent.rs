@@ -181,7 +181,7 @@ fn calls(w: u64) -> u64 {
 }
 
 fn bends(w: u64) -> u64 {
-    (w >> 16) % 3
+    ((w >> 16) % 5 + 1) / 2
 }
 
 /// A large table is filled, or has a few elements.

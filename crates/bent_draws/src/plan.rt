@@ -26,7 +26,7 @@ pub fn calls(w: u64) -> u64 {
 }
 
 pub fn bent(w: u64) -> u64 {
-    1 + (w >> 24) % 4 + (w >> 16) % 3
+    1 + (w >> 24) % 4 + ((w >> 16) % 5 + 1) / 2
 }
 
 // A large table is filled, or has a few elements.

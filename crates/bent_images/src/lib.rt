@@ -1,4 +1,4 @@
-// The calls on the slot image.
+// The comparison on bent tables: the calls on the slot image.
 use bent_draws::Said;
 use bent_draws::at8;
 use bent_draws::below;

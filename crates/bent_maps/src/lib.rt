@@ -1,4 +1,4 @@
-// Rounds of the secondary map through the real code.
+// The comparison on bent tables: rounds of the secondary map through the real code.
 use bent_draws::BEND;
 use bent_draws::START;
 use bent_draws::Said;
