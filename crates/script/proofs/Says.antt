@@ -26,9 +26,10 @@ use Rattle.table.specs.Table.{Table}
 use Rattle.table.specs.Calls.{Said, said-key, said-value, said-done, said-count, Out}
 use Rattle.table.specs.Calls as calls
 use Rattle.commands.specs.Lines.{Asked, asked}
-use Rattle.script.specs.declared.Answer.{Answer}
-use Rattle.script.specs.declared.Answer.the-variants.{Key, Value, Done, Count, Refused}
-use Rattle.script.specs.Script.{answerSaid, acted, answered, okText, refusedText, newline, answerText, lineOut, room, thenTold, spoken, endOf, Run, shown, ran}
+use Rattle.script_act.specs.declared.Answer.{Answer}
+use Rattle.script_act.specs.declared.Answer.the-variants.{Key, Value, Done, Count, Refused}
+use Rattle.script_act.specs.Acts.{answerSaid, answered}
+use Rattle.script.specs.Script.{okText, refusedText, newline, answerText, lineOut, room, thenTold, spoken, endOf, Run, shown, ran}
 
 -- ---- a text after a text
 
@@ -197,7 +198,7 @@ module _ (t : Table) (line : List ℕ) (at : ℕ) (b : List ℕ) where
   ran-fits h = rw h
 
   -- the parts of a line's outcome, from what was done and what was said
-  pub runs : (u : Table) (d : List ℕ) {a : Asked} {s : Said} {w : Told} → leb (at + room) (length b) ≡ true → a ≡ asked line → acted s u ≡ answered t a
+  pub runs : (u : Table) (d : List ℕ) {a : Asked} {s : Said} {w : Told} → leb (at + room) (length b) ≡ true → a ≡ asked line → _≡_ {A = Out} (s, u) (answered t a)
       → _≡_ {A = Told × List ℕ} (w, d) (spoken s at b) → _≡_ {A = Run} (w, (u, d)) (ran t line at b)
   runs u d {a} {s} {w} h e f g =
       ap (joined u) (g ∙ spoken-fits s at b h) ∙ ap (λ (o : Out). shown o at b) (f ∙ ap (answered t) e) ∙ sym (ran-fits h)
