@@ -1,2 +1,3 @@
 pub mod Says
+pub mod Tells
 pub mod Only

@@ -15,6 +15,7 @@ use Rattle.refusal.specs.declared.Refusal.the-variants.{Shape, Dead, Full, NotD
 use Rattle.refusal.specs.Refusals.{numberOf}
 use Rattle.keys.specs.Keys.{W, idx, version, keyOf, isNull}
 use Rattle.keys.specs.declared.KeyData.{KeyData}
+use Rattle.keys.proofs.Keys.{version-word}
 use Rattle.text.specs.declared.Written.{Written}
 use Rattle.text.specs.declared.Written.the-variants.{End}
 use Rattle.text.specs.declared.Written.the-variants as written-variants
@@ -110,15 +111,11 @@ number-small Trailing = omega arith
 number-small Presence = omega arith
 number-small Line = omega arith
 
-version-small : (k : ℕ) → version k < W
-unfolding version
-version-small k = omega arith
-
 pub key-short : (k : ℕ) → length (lineOut (said-key k)) ≤ room
 unfolding answerText
 key-short k =
     split (isNull (keyOf k)) (λ e. omega (arith, line-length (said-key k), ap length (key-text-null (keyOf k) e)))
-    (λ e. omega (arith, line-length (said-key k), key-text-length (keyOf k) e, decimal-32 (idx k) (omega arith), decimal-32 (version k) (version-small k)))
+    (λ e. omega (arith, line-length (said-key k), key-text-length (keyOf k) e, decimal-32 (idx k) (omega arith), decimal-32 (version k) (version-word k)))
 
 -- ---- an answer's line
 
