@@ -1,3 +1,3 @@
-pub mod Acts
 pub mod Says
+pub mod Tells
 pub mod Only

@@ -15,6 +15,7 @@ use Rattle.refusal.specs.declared.Refusal.the-variants.{Shape, Dead, Full, NotD
 use Rattle.refusal.specs.Refusals.{numberOf}
 use Rattle.keys.specs.Keys.{W, idx, version, keyOf, isNull}
 use Rattle.keys.specs.declared.KeyData.{KeyData}
+use Rattle.keys.proofs.Keys.{version-word}
 use Rattle.text.specs.declared.Written.{Written}
 use Rattle.text.specs.declared.Written.the-variants.{End}
 use Rattle.text.specs.declared.Written.the-variants as written-variants
@@ -26,9 +27,10 @@ use Rattle.table.specs.Table.{Table}
 use Rattle.table.specs.Calls.{Said, said-key, said-value, said-done, said-count, Out}
 use Rattle.table.specs.Calls as calls
 use Rattle.commands.specs.Lines.{Asked, asked}
-use Rattle.script.specs.declared.Answer.{Answer}
-use Rattle.script.specs.declared.Answer.the-variants.{Key, Value, Done, Count, Refused}
-use Rattle.script.specs.Script.{answerSaid, acted, answered, okText, refusedText, newline, answerText, lineOut, room, thenTold, spoken, endOf, Run, shown, ran}
+use Rattle.script_act.specs.declared.Answer.{Answer}
+use Rattle.script_act.specs.declared.Answer.the-variants.{Key, Value, Done, Count, Refused}
+use Rattle.script_act.specs.Acts.{answerSaid, answered}
+use Rattle.script.specs.Script.{okText, refusedText, newline, answerText, lineOut, room, thenTold, spoken, endOf, Run, shown, ran}
 
 -- ---- a text after a text
 
@@ -109,15 +111,11 @@ number-small Trailing = omega arith
 number-small Presence = omega arith
 number-small Line = omega arith
 
-version-small : (k : ℕ) → version k < W
-unfolding version
-version-small k = omega arith
-
 pub key-short : (k : ℕ) → length (lineOut (said-key k)) ≤ room
 unfolding answerText
 key-short k =
     split (isNull (keyOf k)) (λ e. omega (arith, line-length (said-key k), ap length (key-text-null (keyOf k) e)))
-    (λ e. omega (arith, line-length (said-key k), key-text-length (keyOf k) e, decimal-32 (idx k) (omega arith), decimal-32 (version k) (version-small k)))
+    (λ e. omega (arith, line-length (said-key k), key-text-length (keyOf k) e, decimal-32 (idx k) (omega arith), decimal-32 (version k) (version-word k)))
 
 -- ---- an answer's line
 
@@ -197,7 +195,7 @@ module _ (t : Table) (line : List ℕ) (at : ℕ) (b : List ℕ) where
   ran-fits h = rw h
 
   -- the parts of a line's outcome, from what was done and what was said
-  pub runs : (u : Table) (d : List ℕ) {a : Asked} {s : Said} {w : Told} → leb (at + room) (length b) ≡ true → a ≡ asked line → acted s u ≡ answered t a
+  pub runs : (u : Table) (d : List ℕ) {a : Asked} {s : Said} {w : Told} → leb (at + room) (length b) ≡ true → a ≡ asked line → _≡_ {A = Out} (s, u) (answered t a)
       → _≡_ {A = Told × List ℕ} (w, d) (spoken s at b) → _≡_ {A = Run} (w, (u, d)) (ran t line at b)
   runs u d {a} {s} {w} h e f g =
       ap (joined u) (g ∙ spoken-fits s at b h) ∙ ap (λ (o : Out). shown o at b) (f ∙ ap (answered t) e) ∙ sym (ran-fits h)

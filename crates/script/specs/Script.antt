@@ -5,41 +5,18 @@ use mathlib.Core.List.{List, [], _∷_, _++_}
 use lib.ListN.{length}
 use lib.Dec.{leb}
 use Rattle.lists.specs.Put.{put}
-use Rattle.refusal.specs.Refusals.{numberOf}
 use Rattle.keys.specs.Keys.{keyOf}
+use Rattle.text.specs.declared.Written.{Written}
 use Rattle.text.specs.Text.{decimal, keyText, Told, ends-at, toldOf, written}
 use Rattle.text.specs.Text as text
 use Rattle.table.specs.Table.{Table}
-use Rattle.table.specs.Calls.{Said, said-key, said-value, said-pair, said-done, said-count, said-truth, refused, Out, len}
-use Rattle.table.specs.Steps.{step}
-use Rattle.commands.specs.Lines.{Asked, asks, asks-len, rejects, asked}
-use Rattle.script.specs.declared.Answer.{Answer}
-use Rattle.script.specs.declared.Answer.the-variants.{Key, Value, Done, Count, Refused}
-use Rattle.text.specs.declared.Written.{Written}
+use Rattle.table.specs.Calls.{Said, said-key, said-value, said-pair, said-done, said-count, said-truth, refused, Out}
+use Rattle.commands.specs.Lines.{asked}
+use Rattle.script_act.specs.Acts.{answered}
 
 -- "C=1,000"
 abbrev pub capacity : ℕ
 capacity = 1000
-
--- what an answer of the code says on paper
-abbrev pub answerSaid : Answer → Said
-answerSaid (Key k) = said-key k
-answerSaid (Value x) = said-value x
-answerSaid Done = said-done
-answerSaid (Count m) = said-count m
-answerSaid (Refused r) = refused (numberOf r)
-
--- an answer with the table after the command
-abbrev pub acted : Said → Table → Out
-acted said t = (said, t)
-
--- ---- what a line does
-
--- a call of the table, the number of its elements, or a refusal that touches nothing
-unfoldable pub answered : Table → Asked → Out
-answered t (asks c) = step t c
-answered t asks-len = (len t, t)
-answered t (rejects r) = (refused r, t)
 
 -- ---- what is printed
 

@@ -21,7 +21,8 @@ use Rattle.table.proofs.Counted.{insert-reads}
 use Rattle.table.proofs.Listed.{count-reads}
 use Rattle.table.proofs.Undamaged.{no-damage}
 use Rattle.commands.specs.Lines.{Asked, asks, asks-len, rejects, asked}
-use Rattle.script.specs.Script.{capacity, answered, lineOut, room}
+use Rattle.script_act.specs.Acts.{answered}
+use Rattle.script.specs.Script.{capacity, lineOut, room}
 use Rattle.script_feed.specs.Input.{lines, ahead, printedLines, calledBy, called}
 use Rattle.script_feed.specs.Machine.{held, machine, areWithin, session}
 use Rattle.script_feed.proofs.Cuts.{session-printed}

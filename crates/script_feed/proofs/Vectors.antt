@@ -8,7 +8,8 @@ use Rattle.table.specs.Table.{Table, lengthsFit, hasShape, isLive, dead, isHeld
 use Rattle.table.specs.Calls.{freshTable, len, placeIn, place, lookup, nextIn, next, inserted, insert, leaving, remove}
 use Rattle.table.specs.Steps.{step}
 use Rattle.commands.specs.Lines.{numberAt, fieldAt, keyIn, asked}
-use Rattle.script.specs.Script.{answered, answerText, lineOut}
+use Rattle.script_act.specs.Acts.{answered}
+use Rattle.script.specs.Script.{answerText, lineOut}
 use Rattle.script_feed.specs.Input.{linesFrom, printedLines, printed}
 
 table : Table

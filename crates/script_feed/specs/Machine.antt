@@ -10,7 +10,8 @@ use Rattle.text.specs.Text.{Told, ends-at, refused, toldOf}
 use Rattle.table.specs.Table.{Table}
 use Rattle.table.specs.Calls.{Out}
 use Rattle.commands.specs.Lines.{longest, asked}
-use Rattle.script.specs.Script.{answered, newline, lineOut, room, endOf}
+use Rattle.script_act.specs.Acts.{answered}
+use Rattle.script.specs.Script.{newline, lineOut, room, endOf}
 
 -- how many bytes of a line are held: one more than a line may have, so that a longer one shows
 abbrev pub held : ℕ

@@ -1,12 +1,14 @@
 -- `end_line` writes the newline where the text ended. Assumes nothing.
 use mathlib.Core.Path.{_∙_}
+use mathlib.Core.List.{[], _∷_}
 use borrow.Author.Needs.{needs}
+use Rattle.script.specs.Script.{newline}
 use Rattle.script.proofs.Says.{then-end, then-refused}
 use Rattle.script.proofs.end_line.Statement.{statement}
 use Rattle.script.proofs.end_line.Tie as tie
 
 returns : tie.Need-returns
-returns c = c .before .before .write-bytes .ensures ∙ then-end _ _ (c .before .before .before .before .before .before .w .given .1)
+returns c = c .before .before .write-bytes .ensures ∙ then-end (newline ∷ []) _ (c .before .before .before .before .before .before .w .given .1)
 
 returns-2 : tie.Need-returns-2
 returns-2 c = then-refused _ _ (c .before .w2 .given .1)

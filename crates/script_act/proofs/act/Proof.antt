@@ -1,8 +1,8 @@
 -- `act` hands each command to the call of its kind. Assumes nothing.
 use borrow.Author.Needs.{needs}
-use Rattle.script.proofs.Acts.{acts-insert, acts-remove, acts-detach, acts-reattach, acts-get, acts-len, acts-refused}
-use Rattle.script.proofs.act.Statement.{statement}
-use Rattle.script.proofs.act.Tie as tie
+use Rattle.script_act.proofs.Acts.{acts-insert, acts-remove, acts-detach, acts-reattach, acts-get, acts-len, acts-refused}
+use Rattle.script_act.proofs.act.Statement.{statement}
+use Rattle.script_act.proofs.act.Tie as tie
 
 returns : tie.Need-returns
 returns c = acts-insert _ (c .before .before .before .before .before .before .before .before .before .before .before .before .before .before .before .before .command .given .1) (c .of-key .ensures) (c .before .before .before .before .before .before .before .before .before .before .insert .ensures)

@@ -2,8 +2,8 @@
 use mathlib.Core.Path.{sym, ap}
 use borrow.Author.Needs.{needs}
 use Rattle.dense.specs.Answers.{issuedSaid}
-use Rattle.script.proofs.of_key.Statement.{statement}
-use Rattle.script.proofs.of_key.Tie as tie
+use Rattle.script_act.proofs.of_key.Statement.{statement}
+use Rattle.script_act.proofs.of_key.Tie as tie
 
 returns : tie.Need-returns
 returns c = sym (ap issuedSaid (c .before .issued .given .1))

@@ -2,8 +2,8 @@
 use mathlib.Core.Path.{sym, ap}
 use borrow.Author.Needs.{needs}
 use Rattle.dense.specs.Answers.{doneSaid}
-use Rattle.script.proofs.of_verdict.Statement.{statement}
-use Rattle.script.proofs.of_verdict.Tie as tie
+use Rattle.script_act.proofs.of_verdict.Statement.{statement}
+use Rattle.script_act.proofs.of_verdict.Tie as tie
 
 returns-2 : tie.Need-returns-2
 returns-2 c = sym (ap doneSaid (c .before .verdict .given .1))
