@@ -11,6 +11,7 @@ use native.Mathlib.Decide.{ℕ-discrete}
 use lib.ListN.{length}
 use lib.Dec.{eqb}
 use borrow.Author.Tests.{eqb-true}
+use Rattle.lists.specs.Among.{among}
 use Rattle.lists.specs.Listed.{picked}
 use Rattle.lists.proofs.Listed.{mem-picked, picked-mem, once-picked}
 use Rattle.numbers.proofs.Told.{both}
@@ -96,7 +97,7 @@ module _ (vs ls ks xs : List ℕ) (l : List Record) (g : Given vs ls ks xs l) wh
       true-false (recorded-is l k (r .1)) e))))
 
   pub rebuilt-begins : Begins t (baseOf l)
-  unfolding isIn
+  unfolding among
   rebuilt-begins =
       record {
         sound = sound-rebuilt vs ls ks xs l g;

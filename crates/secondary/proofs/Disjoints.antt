@@ -17,9 +17,10 @@ use Rattle.keys.specs.Keys.{idx, version, asRead}
 use Rattle.keys.proofs.Keys.{is-read, idx-read, version-read, read-read}
 use Rattle.secondary.specs.Map.{Map, ver, hasShape, isThere, absent}
 use Rattle.secondary.specs.Calls.{said-done, refused, Out, found, slotIn}
-use Rattle.secondary.specs.Sweeps.{Slots, slots, misses, slotted, among, slotsOf, given, disjoint}
+use Rattle.secondary.specs.Sweeps.{Slots, slots, misses, slotted, slotsOf, given, disjoint}
 use Rattle.secondary.proofs.Cases.{there}
-use Rattle.secondary.proofs.Among.{among-here, among-there}
+use Rattle.lists.specs.Among.{among}
+use Rattle.lists.proofs.Among.{among-same, among-there}
 
 -- ---- the slots of a list of keys
 
@@ -88,7 +89,7 @@ slots-once m e (k ∷ ks) is h =
     rw (f .whole)
     (once-cons (idx k) (f .rest)
     (λ mem. slots-new m (asRead k ∷ e) ks (f .rest) (f .others) (idx k) mem (asRead k)
-    (record { earlier = among-here (asRead k) (asRead k) e refl; read = read-read k; same = ap (ver m) (idx-read k) ∙ t .same ∙ sym (version-read k) })
+    (record { earlier = among-same (asRead k) (asRead k) e refl; read = read-read k; same = ap (ver m) (idx-read k) ∙ t .same ∙ sym (version-read k) })
     (idx-read k))
     (slots-once m (asRead k ∷ e) ks (f .rest) (f .others)))
 

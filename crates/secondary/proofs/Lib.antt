@@ -19,7 +19,6 @@ pub mod Clears
 pub mod Swept
 pub mod Drained
 pub mod Frames
-pub mod Among
 pub mod Disjoints
 pub mod Older
 pub mod Only

@@ -1,9 +1,10 @@
 -- The calls over many elements: retain, clear, disjoint (the rules, section "Secondary map"). Assumes nothing.
-use mathlib.Core.Bool.{Bool, true, false, cond, not, _&&_}
+use mathlib.Core.Bool.{Bool, cond, not, _&&_}
 use mathlib.Core.List.{List, [], _∷_}
 use Prim.Native.Nat.{ℕ, zero, suc, _+_}
-use lib.Dec.{leb, eqb}
+use lib.Dec.{leb}
 use lib.ListN.{length}
+use Rattle.lists.specs.Among.{among}
 use Rattle.lists.specs.Put.{put}
 use Rattle.keys.specs.Keys.{idx, version, asRead}
 use Rattle.rules.specs.declared.Rule.{Rule}
@@ -50,11 +51,6 @@ abbrev pub slotted : Judged → Slots → Slots
 slotted (found i) (slots is) = slots (i ∷ is)
 slotted (found i) (misses r) = misses r
 slotted (fails r) rest = misses r
-
--- whether a number stands in a list
-unfoldable pub among : ℕ → List ℕ → Bool
-among k [] = false
-among k (j ∷ l) = cond (eqb k j) true (among k l)
 
 -- keys in list order; 2 also where the key, as read, is among the earlier ones
 unfoldable pub slotsOf : Map → List ℕ → List ℕ → Slots

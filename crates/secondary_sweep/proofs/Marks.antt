@@ -13,8 +13,8 @@ use Rattle.lists.proofs.Tests.{true-false, false-if}
 use Rattle.keys.specs.Keys.{idx, version, asRead, pack}
 use Rattle.keys.proofs.Keys.{idx-read, is-read, version-odd}
 use Rattle.secondary.specs.Map.{Map, ver}
-use Rattle.secondary.specs.Sweeps.{among}
-use Rattle.secondary.proofs.Among.{among-none, among-here, among-there, among-cases}
+use Rattle.lists.specs.Among.{among}
+use Rattle.lists.proofs.Among.{among-none, among-same, among-there, among-cases}
 
 -- ---- one slot of the marked map: it stands as it was, and no earlier key has its index; or it is marked, and an earlier key has it
 
@@ -46,7 +46,7 @@ module _ (m : Map) (vs earlier : List ℕ) (k : ℕ) where
   spot-marked j l e s =
       by-cases (ℕ-discrete j (idx k))
       (λ h. held (ap (λ (n : ℕ). getD (set vs (idx k) 2) n 0) h ∙ getD-set-same vs (idx k) 2 0 l)
-      (among-here _ _ earlier (ap (λ (n : ℕ). pack n (ver m n)) h ∙ sym (is-read k (idx k) (ver m (idx k)) refl (sym e)))))
+      (among-same _ _ earlier (ap (λ (n : ℕ). pack n (ver m n)) h ∙ sym (is-read k (idx k) (ver m (idx k)) refl (sym e)))))
       (λ ne. go s ne)
     where
       go : Spot m vs earlier j → j ≢ idx k → Spot m (set vs (idx k) 2) (asRead k ∷ earlier) j

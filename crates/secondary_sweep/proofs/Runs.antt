@@ -18,7 +18,8 @@ use Rattle.keys.specs.Keys.{idx, version, asRead, keyOf}
 use Rattle.keys.specs.declared.KeyData.{KeyData}
 use Rattle.secondary.specs.Map.{Map, hasShape, isThere, absent}
 use Rattle.secondary.specs.Calls.{found, fails, slotIn, slot}
-use Rattle.secondary.specs.Sweeps.{Slots, slots, misses, slotted, among, slotsOf}
+use Rattle.lists.specs.Among.{among}
+use Rattle.secondary.specs.Sweeps.{Slots, slots, misses, slotted, slotsOf}
 use Rattle.secondary.proofs.Shaped.{shaped, shape-true}
 use Rattle.secondary.proofs.Cases.{there, there-true, slot-absent, slot-there}
 use Rattle.secondary.proofs.Stands.{Stands}

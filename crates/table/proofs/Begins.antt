@@ -7,6 +7,7 @@ use mathlib.Core.List.{List, [], _∷_, List·Memᴰ, List·Memᴰ·not-nil, Lis
 use mathlib.Core.Option.{none, some}
 use Prim.Native.Nat.{ℕ, _+_, _%_, _<_}
 use native.Mathlib.Omega.{arith}
+use Rattle.lists.specs.Among.{among}
 use Rattle.lists.proofs.Tests.{split}
 use Rattle.lists.proofs.Once.{Once, once-nil, sublist-mem}
 use Rattle.keys.specs.Keys.{W, idx, pack, version, asRead}
@@ -122,7 +123,7 @@ pub record Begins (t : Table) (base : Reading) : Type 0 where
   pub detached-read : (k : ℕ) → List·Memᴰ k (base .detached) → asRead k ≡ k
 
 pub fresh-begins : (vs ls ks xs : List ℕ) → lengthsFit vs ls ks xs ≡ true → Begins (freshTable vs ls ks xs) blank
-unfolding freshTable valueIn isIn
+unfolding freshTable valueIn among
 fresh-begins vs ls ks xs fit =
     record {
       sound = sound-fresh vs ls ks xs fit;

@@ -11,6 +11,7 @@ use native.Mathlib.Decide.{ℕ-discrete}
 use lib.ListN.{length}
 use lib.Dec.{eqb}
 use borrow.Author.Tests.{eqb-true, eq-eqb, ne-eqb}
+use Rattle.lists.specs.Among.{among}
 use Rattle.lists.proofs.Tests.{split, true-false}
 use Rattle.lists.proofs.Once.{Once, once-head, once-tail, once-cons, once-sublist}
 use Rattle.keys.specs.Keys.{idx}
@@ -33,11 +34,11 @@ unfolding valueIn
 value-other e l k ne = rw (ne-eqb k (e .0) ne)
 
 in-same : (j : ℕ) (l : List ℕ) (k : ℕ) → k ≡ j → isIn (j ∷ l) k ≡ true
-unfolding isIn
+unfolding among
 in-same j l k q = rw (eq-eqb k j q)
 
 in-other : (j : ℕ) (l : List ℕ) (k : ℕ) → k ≢ j → isIn (j ∷ l) k ≡ isIn l k
-unfolding isIn
+unfolding among
 in-other j l k ne = rw (ne-eqb k j ne)
 
 -- ---- members
@@ -68,7 +69,7 @@ none-value [] k h = refl
 none-value (e ∷ l) k h = value-other e l k (λ q. h (List·Memᴰ·head q)) ∙ none-value l k (λ m. h (List·Memᴰ·tail m))
 
 pub in-mem : (l : List ℕ) (k : ℕ) → isIn l k ≡ true → List·Memᴰ k l
-unfolding isIn
+unfolding among
 in-mem [] k e = true-false e refl
 in-mem (j ∷ l) k e =
     by-cases (ℕ-discrete k j)
@@ -143,7 +144,7 @@ value-sifted keeps k (e ∷ l) o =
     (λ y. rw y ih)))
 
 except-same : (j k : ℕ) (l : List ℕ) → k ≡ j → isIn (except j l) k ≡ false
-unfolding except isIn
+unfolding except among
 except-same j k [] q = refl
 except-same j k (i ∷ l) q =
     by-cases (ℕ-discrete j i)
@@ -151,7 +152,7 @@ except-same j k (i ∷ l) q =
     (λ np. rw (ne-eqb j i np) (in-other i (except j l) k (λ p. np (sym q ∙ p)) ∙ except-same j k l q))
 
 except-other : (j k : ℕ) (l : List ℕ) → k ≢ j → isIn (except j l) k ≡ isIn l k
-unfolding except isIn
+unfolding except among
 except-other j k [] ne = refl
 except-other j k (i ∷ l) ne =
     by-cases (ℕ-discrete j i)
@@ -174,7 +175,7 @@ value-changed (parts j) r k o = value-without j k (r .live)
 value-changed (sieved keeps) r k o = value-sifted keeps k (r .live) o
 
 pub detached-changed : (c : Change) (r : Reading) (k : ℕ) → isIn (changed c r .detached) k ≡ detachedAfter c k (isIn (r .detached) k)
-unfolding changed isIn
+unfolding changed among
 detached-changed nothing r k = refl
 detached-changed (issued j x) r k = refl
 detached-changed (returned j x) r k = in-except j k (r .detached)

@@ -1,10 +1,11 @@
 -- What a list of calls and answers says of the keys (the rules, section "What the promises have to say"):
 -- "that reading knows no slots, links, places or free list". Assumes nothing.
-use mathlib.Core.Bool.{Bool, true, false, cond}
+use mathlib.Core.Bool.{Bool, false, cond}
 use mathlib.Core.List.{List, [], _∷_}
 use mathlib.Core.Option.{Option, none, some}
 use Prim.Native.Nat.{ℕ, suc, _+_}
 use lib.Dec.{eqb}
+use Rattle.lists.specs.Among.{among}
 use Rattle.keys.specs.Keys.{idx, asRead}
 use Rattle.rules.specs.Rules.{keepsOf}
 use Rattle.table.specs.Calls.{Said, said-key, said-value, said-pair, said-done, said-count, said-truth, refused}
@@ -116,9 +117,8 @@ unfoldable pub valueIn : List (ℕ × ℕ) → ℕ → Option ℕ
 valueIn [] k = none
 valueIn (e ∷ l) k = cond (eqb k (e .0)) (some (e .1)) (valueIn l k)
 
-unfoldable pub isIn : List ℕ → ℕ → Bool
-isIn [] k = false
-isIn (j ∷ l) k = cond (eqb k j) true (isIn l k)
+abbrev pub isIn : List ℕ → ℕ → Bool
+isIn l k = among k l
 
 -- ---- removals at an index: "drops, drain steps and clears count as removals"
 
