@@ -24,8 +24,8 @@ use Rattle.commands.specs.Lines.{Asked, asks, asks-len, rejects, asked}
 use Rattle.script_act.specs.Acts.{answered}
 use Rattle.script.specs.Script.{capacity, lineOut, room}
 use Rattle.script_feed.specs.Input.{lines, ahead, printedLines, calledBy, called}
-use Rattle.script_feed.specs.Machine.{held, machine, areWithin, session}
-use Rattle.script_feed.proofs.Cuts.{session-printed}
+use Rattle.script_feed.specs.Machine.{held, machine, areWithin, fedAll}
+use Rattle.script_feed.proofs.Cuts.{parts-printed}
 
 -- ---- the lines make one list of calls
 
@@ -102,11 +102,11 @@ capacity-fits vs ls ks xs v l k x = rw (k, v, l, x)
 
 module _ (vs ls ks xs line out : List ℕ) (k : ℕ) (parts : List (List ℕ)) (long : held ≤ length line) (some : 1 ≤ k) (room-for : k * room ≤ length out)
     (short : areWithin k parts ≡ true) where
-  pub session-table : session (machine (freshTable vs ls ks xs) 0 line out) parts .1 ≡ after (freshTable vs ls ks xs) (called [] (lines (flatten parts)))
+  pub parts-table : fedAll (machine (freshTable vs ls ks xs) 0 line out) parts .1 ≡ after (freshTable vs ls ks xs) (called [] (lines (flatten parts)))
   unfolding after
-  session-table =
-      ap (λ (p : List ℕ × Table). p .1) (session-printed (freshTable vs ls ks xs) line out k parts long some room-for short)
+  parts-table =
+      ap (λ (p : List ℕ × Table). p .1) (parts-printed (freshTable vs ls ks xs) line out k parts long some room-for short)
       ∙ printed-table (freshTable vs ls ks xs) (lines (flatten parts)) []
 
-  pub session-sound : lengthsFit vs ls ks xs ≡ true → Sound (session (machine (freshTable vs ls ks xs) 0 line out) parts .1)
-  session-sound f = subst Sound (sym session-table) (sound-after _ (sound-fresh vs ls ks xs f) (called [] (lines (flatten parts))))
+  pub parts-sound : lengthsFit vs ls ks xs ≡ true → Sound (fedAll (machine (freshTable vs ls ks xs) 0 line out) parts .1)
+  parts-sound f = subst Sound (sym parts-table) (sound-after _ (sound-fresh vs ls ks xs f) (called [] (lines (flatten parts))))

@@ -19,7 +19,7 @@ use Rattle.commands.proofs.Lines.{asked-long}
 use Rattle.script_act.specs.Acts.{answered}
 use Rattle.script.specs.Script.{newline, lineOut, room}
 use Rattle.script_feed.specs.Input.{lastLine, linesFrom, ahead, printedLines, printed}
-use Rattle.script_feed.specs.Machine.{held, Machine, machine, begun, Step, closed, took, tookAll, isReady, Fed, saidBy, areWithin, session}
+use Rattle.script_feed.specs.Machine.{held, Machine, machine, begun, Step, closed, took, tookAll, isReady, Fed, saidBy, areWithin, fedAll}
 use Rattle.script_feed.proofs.Steps.{took-newline, took-held, took-past, ready-from, fed-ready, finished-empty, finished-line}
 
 -- ---- what is held of a line says as much as the line
@@ -187,8 +187,8 @@ starts-over : {m : Machine} {at : ℕ} {p : List ℕ} → Holds m at p → Holds
 starts-over h = record { long = h .long; within = h .within; begins = h .begins; inside = omega arith }
 
 module _ (k : ℕ) (some : 1 ≤ k) where
-  at-the-end : (m : Machine) (p : List ℕ) → Holds m 0 p → k * room ≤ length (m .out) → session m [] ≡ printedLines (m .table) (lastLine p)
-  unfolding session printedLines closed
+  at-the-end : (m : Machine) (p : List ℕ) → Holds m 0 p → k * room ≤ length (m .out) → fedAll m [] ≡ printedLines (m .table) (lastLine p)
+  unfolding fedAll printedLines closed
   at-the-end m [] h fits =
       ap (λ (f : Fed). pair (saidBy f) (f .1 .table)) (sym (finished-empty m ready none))
     where
@@ -218,11 +218,11 @@ module _ (k : ℕ) (some : 1 ≤ k) where
 
   -- the parts that are still to come, from any machine that holds what it can of the line that has begun
   from-here : (parts : List (List ℕ)) (m : Machine) (p : List ℕ) → Holds m 0 p → k * room ≤ length (m .out) → areWithin k parts ≡ true
-      → session m parts ≡ printedLines (m .table) (linesFrom p (flatten parts))
-  unfolding session flatten linesFrom areWithin
+      → fedAll m parts ≡ printedLines (m .table) (linesFrom p (flatten parts))
+  unfolding fedAll flatten linesFrom areWithin
   from-here [] m p h fits w = at-the-end m p h fits
   from-here (s ∷ parts) m p h fits w =
-      ap (λ (f : Fed). ahead (saidBy f) (session (f .1) parts)) (sym (fed-ready m s ready))
+      ap (λ (f : Fed). ahead (saidBy f) (fedAll (f .1) parts)) (sym (fed-ready m s ready))
       ∙ ap (ahead (take (r .0) (r .1 .out))) (from-here parts (r .1) (since p s) (starts-over (g .holds)) (omega (arith, g .grows)) (and-right (leb (length s) k) _ w))
       ∙ sym (g .same (flatten parts))
     where
@@ -239,14 +239,14 @@ module _ (k : ℕ) (some : 1 ≤ k) where
       ready = ready-from _ _ _ _ (h .long) (h .within) (omega (arith, short))
 
 -- the theorem: k is the most bytes that a part may have by the output's room
-pub session-printed : (t : Table) (line out : List ℕ) (k : ℕ) (parts : List (List ℕ)) → held ≤ length line → 1 ≤ k → k * room ≤ length out
-    → areWithin k parts ≡ true → session (machine t 0 line out) parts ≡ printed t (flatten parts)
-session-printed t line out k parts long some fits w =
+pub parts-printed : (t : Table) (line out : List ℕ) (k : ℕ) (parts : List (List ℕ)) → held ≤ length line → 1 ≤ k → k * room ≤ length out
+    → areWithin k parts ≡ true → fedAll (machine t 0 line out) parts ≡ printed t (flatten parts)
+parts-printed t line out k parts long some fits w =
     from-here k some parts (machine t 0 line out) [] (record { long = long; within = omega arith; begins = refl; inside = omega arith }) fits w
 
 -- so two cuttings of one input print the same and leave the same table
-pub session-cut : (t : Table) (line out : List ℕ) (k : ℕ) (parts others : List (List ℕ)) → held ≤ length line → 1 ≤ k → k * room ≤ length out
+pub parts-cut : (t : Table) (line out : List ℕ) (k : ℕ) (parts others : List (List ℕ)) → held ≤ length line → 1 ≤ k → k * room ≤ length out
     → areWithin k parts ≡ true → areWithin k others ≡ true → flatten parts ≡ flatten others
-    → session (machine t 0 line out) parts ≡ session (machine t 0 line out) others
-session-cut t line out k parts others long some fits v w e =
-    session-printed t line out k parts long some fits v ∙ ap (printed t) e ∙ sym (session-printed t line out k others long some fits w)
+    → fedAll (machine t 0 line out) parts ≡ fedAll (machine t 0 line out) others
+parts-cut t line out k parts others long some fits v w e =
+    parts-printed t line out k parts long some fits v ∙ ap (printed t) e ∙ sym (parts-printed t line out k others long some fits w)

@@ -98,6 +98,6 @@ areWithin k [] = true
 areWithin k (s ∷ parts) = leb (length s) k && areWithin k parts
 
 -- what is printed when the parts are fed one after the other and the input then ends; and the table at the end
-unfoldable pub session : Machine → List (List ℕ) → List ℕ × Table
-session m [] = (saidBy (finished m), finished m .1 .table)
-session m (s ∷ parts) = (saidBy (fed m s) ++ session (fed m s .1) parts .0, session (fed m s .1) parts .1)
+unfoldable pub fedAll : Machine → List (List ℕ) → List ℕ × Table
+fedAll m [] = (saidBy (finished m), finished m .1 .table)
+fedAll m (s ∷ parts) = (saidBy (fed m s) ++ fedAll (fed m s .1) parts .0, fedAll (fed m s .1) parts .1)
