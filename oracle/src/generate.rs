@@ -1,0 +1,245 @@
+//! The call lists. Each is made by running the crate beside it, so that most keys are live ones; the others are detached, old or bent in one field.
+use crate::dense::{number, Dense};
+use crate::image;
+use crate::lines::{hex, named, Answer, Line};
+
+/// A deterministic source of choices.
+pub struct Dice(u64);
+
+impl Dice {
+    pub fn new(seed: u64) -> Dice {
+        Dice(seed.wrapping_mul(0x9e37_79b9_7f4a_7c15) | 1)
+    }
+
+    /// A number below `sides`.
+    pub fn roll(&mut self, sides: u64) -> u64 {
+        self.0 ^= self.0 << 13;
+        self.0 ^= self.0 >> 7;
+        self.0 ^= self.0 << 17;
+        (self.0 >> 11) % sides
+    }
+
+    pub fn pick<T: Copy>(&mut self, from: &[T]) -> T {
+        from[self.roll(from.len() as u64) as usize]
+    }
+
+    /// One of the kinds, as often as its weight says.
+    pub fn kind(&mut self, weights: &[(u8, u64)]) -> u8 {
+        let mut at = self.roll(weights.iter().map(|w| w.1).sum());
+        for (op, weight) in weights {
+            if at < *weight {
+                return *op;
+            }
+            at -= weight;
+        }
+        unreachable!()
+    }
+}
+
+/// Values are small mostly, so that the lists stay short; some have one bit, some are at the end of their range.
+pub fn some_value(dice: &mut Dice) -> u64 {
+    match dice.roll(40) {
+        0 => 1 << dice.roll(64),
+        1 => u64::MAX - dice.roll(3),
+        2 => dice.roll(1 << 50),
+        _ => dice.roll(100),
+    }
+}
+
+/// Versions at the start, around 2^31 and around 2^32.
+pub fn some_version(dice: &mut Dice) -> u64 {
+    match dice.roll(6) {
+        0 => 0x7fff_fffa + dice.roll(10),
+        1 => 0xffff_fff8 + dice.roll(8),
+        2 => 0xffff_fffe + dice.roll(2),
+        3 => dice.roll(300),
+        _ => dice.roll(5),
+    }
+}
+
+/// A key with one field changed: the version's lowest bit, the version, the index, or the index of no slot.
+pub fn bent(dice: &mut Dice, k: u64, slots: u64) -> u64 {
+    let (idx, version) = (k & 0xffff_ffff, k >> 32);
+    let version_is = |v: u64| (v & 0xffff_ffff) << 32 | idx;
+    match dice.roll(8) {
+        0 | 1 => k ^ 1 << 32,
+        2 => version_is(version + 2),
+        3 => version_is(version.wrapping_sub(2)),
+        4 => version_is(version ^ 1 << dice.roll(32)),
+        5 => version << 32 | dice.roll(slots + 2),
+        6 => version << 32 | (idx ^ 1 << dice.roll(32)),
+        _ => version << 32 | dice.pick(&[0, 0xffff_ffff]),
+    }
+}
+
+/// An image whose slots fit C, with versions from `some_version`; one slot in `free` is vacant.
+pub fn some_image(dice: &mut Dice, c: u64, free: u64) -> Vec<u8> {
+    let s = 1 + if dice.roll(3) == 0 { c } else { dice.roll(c + 1) };
+    let mut out = vec![];
+    image::push_number(&mut out, s);
+    out.extend([0, 0]);
+    for _ in 1..s {
+        let odd = dice.roll(free) > 0;
+        image::push_number(&mut out, some_version(dice) & !1 | odd as u64);
+        out.push(odd as u8);
+        if odd {
+            image::push_number(&mut out, some_value(dice));
+        }
+    }
+    out
+}
+
+/// A list under way.
+pub struct List {
+    pub text: String,
+    pub since: u32,
+}
+
+impl List {
+    pub fn new() -> List {
+        List { text: String::new(), since: 0 }
+    }
+
+    pub fn add(&mut self, line: &str) {
+        self.text.push_str(line);
+        self.text.push('\n');
+        self.since += 1;
+    }
+}
+
+/// The keys that a list's calls may name, beside the live ones.
+struct Known {
+    old: Vec<u64>,
+    away: Vec<u64>,
+}
+
+impl Known {
+    fn key(&self, dice: &mut Dice, t: &Dense, want_away: bool) -> u64 {
+        let old = dice.pick(&self.old);
+        let live = if t.m.is_empty() { old } else { number(dice.pick(t.m.keys_as_slice())) };
+        let away = if self.away.is_empty() { old } else { dice.pick(&self.away) };
+        match dice.roll(20) {
+            0 => old,
+            1 => away,
+            2 => bent(dice, live, t.c as u64),
+            3 => bent(dice, away, t.c as u64),
+            _ if want_away => away,
+            _ => live,
+        }
+    }
+}
+
+fn a_retain(dice: &mut Dice, t: &Dense, op: u8) -> String {
+    // large tables lose few elements a time, small ones any number
+    let few = t.c > 20 && dice.roll(8) > 0;
+    let c = t.c as u64;
+    match op {
+        b'v' if few => format!("v{} {}", dice.roll(2), u64::MAX - dice.roll(3)),
+        b'v' => format!("v{} {}", dice.roll(40), 30 + dice.roll(70)),
+        b'm' if few => dice.pick(&["m0 0", "m2251799813685248 0", "m4611686018427387904 0"]).into(),
+        b'm' => format!("m{} {}", dice.pick(&[1, 2, 3, 64]), dice.roll(3)),
+        _ if few => format!("x{} {}", dice.roll(6), c - dice.roll(6)),
+        _ => format!("x{} {}", dice.roll(c / 2 + 2), c / 2 + dice.roll(c / 2 + 3)),
+    }
+}
+
+const GROWING: &[(u8, u64)] = &[(b'i', 50), (b'r', 8), (b'd', 4), (b'a', 6), (b'g', 8), (b'p', 8), (b'c', 4), (b'o', 4), (b'n', 4), (b'j', 3), (b'z', 1), (b'y', 1), (b'l', 1), (b'f', 1), (b't', 1)];
+const SHRINKING: &[(u8, u64)] = &[(b'i', 12), (b'r', 24), (b'd', 6), (b'a', 10), (b'g', 8), (b'p', 6), (b'c', 4), (b'o', 4), (b'n', 4), (b'j', 4), (b'z', 4), (b'y', 4), (b'l', 2), (b'f', 2), (b't', 2), (b'v', 2), (b'm', 2), (b'x', 2), (b'e', 1)];
+const STEADY: &[(u8, u64)] = &[(b'i', 20), (b'r', 14), (b'd', 10), (b'a', 12), (b'g', 8), (b'p', 7), (b'c', 4), (b'o', 4), (b'n', 5), (b'j', 4), (b'z', 2), (b'y', 2), (b'l', 2), (b'f', 2), (b't', 2), (b'v', 2), (b'm', 2), (b'x', 2)];
+
+/// Calls on a table of C, by the crate's own answers. Whole states are asked every 40 calls, and after each sweep, drain step and rebuild.
+fn dense_part(dice: &mut Dice, list: &mut List, t: &mut Dense, c: usize, calls: usize, rebuilds: u64) {
+    let say = |list: &mut List, t: &mut Dense, line: &str| -> Answer {
+        list.add(line);
+        t.call(&Line::parse(line))
+    };
+    let mut known = Known { old: vec![1 << 32 | 1], away: vec![] };
+    say(list, t, &format!("C{c}"));
+    let mut mood = GROWING;
+    for i in 0..calls {
+        if i % (c / 2 + 25) == 0 {
+            let turn = dice.roll(4);
+            mood = if c > 20 && i < 2 * c { GROWING } else { [GROWING, SHRINKING, STEADY, STEADY][turn as usize] };
+        }
+        if list.since >= 40 {
+            say(list, t, "s");
+            list.since = 0;
+        }
+        if dice.roll(rebuilds) == 0 {
+            let bytes = some_image(dice, c as u64, 4);
+            say(list, t, &format!("R{}", hex(&bytes)));
+            say(list, t, "s");
+            known.away.clear();
+            continue;
+        }
+        let mut op = dice.kind(mood);
+        // a large table is swept seldom, and a clear is for small ones
+        let sweep = matches!(op, b'v' | b'm' | b'x');
+        if c > 20 && (op == b'e' && dice.roll(30) > 0 || sweep && dice.roll(6) > 0) {
+            op = b'r';
+        }
+        let k = known.key(dice, t, op == b'a');
+        let v = some_value(dice);
+        let line = match op {
+            b'i' => format!("i{v}"),
+            b'p' | b'a' => format!("{}{} {v}", op as char, named(k)),
+            b'r' | b'd' | b'g' | b'c' | b'o' => format!("{}{}", op as char, named(k)),
+            b'v' | b'm' | b'x' => a_retain(dice, t, op),
+            _ => (op as char).to_string(),
+        };
+        if op == b'j' {
+            for _ in 0..dice.pick(&[0, 1, 2, 2, 3, 3, 4, 8]) {
+                let k = known.key(dice, t, false);
+                say(list, t, &format!("k{}", named(k)));
+            }
+        }
+        let answer = say(list, t, &line);
+        let (idx, version) = (k & 0xffff_ffff, k >> 32 | 1);
+        let read = version << 32 | idx;
+        match (op, answer) {
+            (b'i', Answer::Key(k)) => {
+                known.old.push(k);
+                if known.old.len() > c + 4 {
+                    known.old.remove(0);
+                }
+            }
+            (b'd', Answer::Number(_)) => known.away.push(read),
+            (b'a', Answer::Done) => known.away.retain(|x| *x != read),
+            _ => {}
+        }
+        if matches!(op, b'z' | b'y' | b'v' | b'm' | b'x' | b'e') {
+            say(list, t, "s");
+        }
+    }
+    say(list, t, "s");
+}
+
+/// The calls of the sequences, each with its own letter and numbers.
+const ALPHABET: [&str; 12] = ["i7", "r1 1", "r2 1", "r1 3", "d1 1", "d2 1", "a1 1 8", "a2 1 9", "z", "x2 2", "m1 0", "e"];
+
+pub fn dense() -> String {
+    let mut dice = Dice::new(1);
+    let mut list = List::new();
+    let mut t = Dense::new();
+    for _ in 0..20 {
+        dense_part(&mut dice, &mut list, &mut t, 0, 40, 20);
+        dense_part(&mut dice, &mut list, &mut t, 1, 600, 30);
+        dense_part(&mut dice, &mut list, &mut t, 2, 900, 40);
+    }
+    for _ in 0..20 {
+        dense_part(&mut dice, &mut list, &mut t, 20, 5_000, 120);
+    }
+    dense_part(&mut dice, &mut list, &mut t, 1_000, 30_000, 10_000);
+    dense_part(&mut dice, &mut list, &mut t, 4_096, 30_000, u64::MAX);
+    for call in ALPHABET {
+        list.add(&format!("+{call}"));
+    }
+    for c in 0..3 {
+        for first in 0..ALPHABET.len() {
+            for second in 0..ALPHABET.len() {
+                list.add(&format!("X{c} {first} {second}"));
+            }
+        }
+    }
+    list.text
+}
