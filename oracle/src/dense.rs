@@ -225,7 +225,7 @@ impl Dense {
                 }
                 Err(n) => Answer::Refused(n),
             },
-            b'X' => self.sequences(a as usize, b as usize, c as usize),
+            b'X' => self.sequences(b as usize, c as usize),
             op => panic!("call {}", op as char),
         }
     }
@@ -314,12 +314,12 @@ impl Dense {
     }
 
     /// Every sequence of five of the kept calls that begins with these two, each on a fresh table: one digest of all answers and states.
-    fn sequences(&mut self, c: usize, first: usize, second: usize) -> Answer {
+    fn sequences(&mut self, first: usize, second: usize) -> Answer {
         let alphabet = std::mem::take(&mut self.alphabet);
         let n = alphabet.len();
         let mut h = 0;
         for t in 0..n * n * n {
-            self.begin(c);
+            self.begin(self.c);
             for i in [first, second, t / (n * n), t / n % n, t % n] {
                 h = self.call(&alphabet[i]).fold(h);
                 h = mix(h, self.digest());

@@ -144,8 +144,8 @@ fn a_retain(dice: &mut Dice, t: &Dense, op: u8) -> String {
 }
 
 const GROWING: &[(u8, u64)] = &[(b'i', 50), (b'r', 8), (b'd', 4), (b'a', 6), (b'g', 8), (b'p', 8), (b'c', 4), (b'o', 4), (b'n', 4), (b'j', 3), (b'z', 1), (b'y', 1), (b'l', 1), (b'f', 1), (b't', 1)];
-const SHRINKING: &[(u8, u64)] = &[(b'i', 12), (b'r', 24), (b'd', 6), (b'a', 10), (b'g', 8), (b'p', 6), (b'c', 4), (b'o', 4), (b'n', 4), (b'j', 4), (b'z', 4), (b'y', 4), (b'l', 2), (b'f', 2), (b't', 2), (b'v', 2), (b'm', 2), (b'x', 2), (b'e', 1)];
-const STEADY: &[(u8, u64)] = &[(b'i', 20), (b'r', 14), (b'd', 10), (b'a', 12), (b'g', 8), (b'p', 7), (b'c', 4), (b'o', 4), (b'n', 5), (b'j', 4), (b'z', 2), (b'y', 2), (b'l', 2), (b'f', 2), (b't', 2), (b'v', 2), (b'm', 2), (b'x', 2)];
+const SHRINKING: &[(u8, u64)] = &[(b'i', 12), (b'r', 24), (b'd', 6), (b'a', 10), (b'g', 8), (b'p', 6), (b'c', 4), (b'o', 4), (b'n', 4), (b'j', 4), (b'z', 4), (b'y', 4), (b'l', 2), (b'f', 2), (b't', 2), (b'v', 3), (b'm', 3), (b'x', 3), (b'e', 8)];
+const STEADY: &[(u8, u64)] = &[(b'i', 20), (b'r', 14), (b'd', 10), (b'a', 12), (b'g', 8), (b'p', 7), (b'c', 4), (b'o', 4), (b'n', 5), (b'j', 4), (b'z', 2), (b'y', 2), (b'l', 2), (b'f', 2), (b't', 2), (b'v', 3), (b'm', 3), (b'x', 3)];
 
 /// Calls on a table of C, by the crate's own answers. Whole states are asked every 40 calls, and after each sweep, drain step and rebuild.
 fn dense_part(dice: &mut Dice, list: &mut List, t: &mut Dense, c: usize, calls: usize, rebuilds: u64) {
@@ -221,10 +221,10 @@ pub fn dense() -> String {
     let mut dice = Dice::new(1);
     let mut list = List::new();
     let mut t = Dense::new();
-    for _ in 0..20 {
-        dense_part(&mut dice, &mut list, &mut t, 0, 40, 20);
-        dense_part(&mut dice, &mut list, &mut t, 1, 600, 30);
-        dense_part(&mut dice, &mut list, &mut t, 2, 900, 40);
+    for _ in 0..700 {
+        dense_part(&mut dice, &mut list, &mut t, 0, 2, 20);
+        dense_part(&mut dice, &mut list, &mut t, 1, 20, 30);
+        dense_part(&mut dice, &mut list, &mut t, 2, 30, 40);
     }
     for _ in 0..20 {
         dense_part(&mut dice, &mut list, &mut t, 20, 5_000, 120);
@@ -235,9 +235,10 @@ pub fn dense() -> String {
         list.add(&format!("+{call}"));
     }
     for c in 0..3 {
+        list.add(&format!("C{c}"));
         for first in 0..ALPHABET.len() {
             for second in 0..ALPHABET.len() {
-                list.add(&format!("X{c} {first} {second}"));
+                list.add(&format!("X{first} {second}"));
             }
         }
     }

@@ -58,31 +58,31 @@ pub enum Answer {
     /// A key, its value, and the place to go on from.
     Step(u64, u64, u64),
     Places(Vec<u32>),
-    /// One of the answers of a secondary insert: stored, kept, ignored.
-    Letter(u8),
+    /// A secondary insert that stored nothing, at a newer version or at the null key.
+    Kept,
+    Ignored,
     Digest(u64),
     Bytes(Vec<u8>),
 }
 
 impl Answer {
-    pub fn accepted(&self) -> bool {
-        !matches!(self, Answer::Refused(_))
-    }
-
     /// The answer folded into a digest: which kind it is, then its numbers. Places stand in the output, which the state has.
     pub fn fold(&self, h: u64) -> u64 {
-        match self {
-            Answer::Done => mix(h, 0),
-            Answer::Refused(n) => mix(mix(h, 1), *n as u64),
-            Answer::Number(x) => mix(mix(h, 2), *x),
-            Answer::Key(k) => mix(mix(h, 3), *k),
-            Answer::Pair(k, v) => mix(mix(mix(h, 4), *k), *v),
-            Answer::Step(k, v, next) => mix(mix(mix(mix(h, 5), *k), *v), *next),
-            Answer::Places(p) => mix(mix(h, 6), p.len() as u64),
-            Answer::Letter(b) => mix(mix(h, 7), *b as u64),
-            Answer::Digest(d) => mix(mix(h, 8), *d),
-            Answer::Silent | Answer::Counts(..) | Answer::Bytes(_) => panic!("not in a sequence"),
-        }
+        let (kind, a, b, c) = match self {
+            Answer::Done => (0, 0, 0, 0),
+            Answer::Refused(n) => (1, *n as u64, 0, 0),
+            Answer::Number(x) => (2, *x, 0, 0),
+            Answer::Key(k) => (3, *k, 0, 0),
+            Answer::Pair(k, v) => (4, *k, *v, 0),
+            Answer::Step(k, v, next) => (5, *k, *v, *next),
+            Answer::Places(p) => (6, p.len() as u64, 0, 0),
+            Answer::Digest(d) => (7, *d, 0, 0),
+            Answer::Counts(slots, live) => (8, *slots, *live, 0),
+            Answer::Kept => (10, 0, 0, 0),
+            Answer::Ignored => (11, 0, 0, 0),
+            Answer::Silent | Answer::Bytes(_) => panic!("not in a sequence"),
+        };
+        mix_all(h, [kind, a, b, c].into_iter())
     }
 }
 
@@ -105,7 +105,8 @@ impl fmt::Display for Answer {
                 write!(f, ".")?;
                 p.iter().try_for_each(|x| write!(f, " {x}"))
             }
-            Answer::Letter(b) => write!(f, "{}", *b as char),
+            Answer::Kept => write!(f, "k"),
+            Answer::Ignored => write!(f, "i"),
             Answer::Digest(d) => write!(f, "{d:016x}"),
             Answer::Bytes(b) => write!(f, "{}", hex(b)),
         }

@@ -18,7 +18,7 @@ use rules::Rule;
 use table::Header;
 
 // What a call leaves: the header and the answer.
-pub struct Call {
+pub struct Made {
     pub header: Header,
     pub answer: Answer,
 }
@@ -93,13 +93,13 @@ fn drained(step: Drained) -> Answer {
 // ---- a table begun
 
 // What a start leaves: the header that was, where it is refused.
-fn started(h: Header, start: Started) -> Call {
+fn started(h: Header, start: Started) -> Made {
     match start {
-        Started::With(g) => Call {
+        Started::With(g) => Made {
             header: g,
             answer: Answer::of(DONE, 0),
         },
-        Started::Refused(why) => Call {
+        Started::Refused(why) => Made {
             header: h,
             answer: Answer::refused(why),
         },
@@ -112,7 +112,7 @@ pub fn fresh(
     links: &mut [u32],
     keys: &[u64],
     values: &[u64],
-) -> Call {
+) -> Made {
     started(h, dense::fresh(versions, links, keys, values))
 }
 
@@ -123,7 +123,7 @@ pub fn rebuild(
     keys: &mut [u64],
     values: &mut [u64],
     bytes: &[u8],
-) -> Call {
+) -> Made {
     started(h, image_read::rebuild(versions, links, keys, values, bytes))
 }
 
@@ -139,7 +139,10 @@ pub fn state(
     places: &[u32],
 ) -> u64 {
     let sound = truth(dense_sound::is_sound(h, versions, links, keys, values));
-    let header = replay::mix(replay::mix(replay::mix(replay::mix(0, sound), wide(h.n)), wide(h.s)), wide(h.f));
+    let header = replay::mix(
+        replay::mix(replay::mix(replay::mix(0, sound), wide(h.n)), wide(h.s)),
+        wide(h.f),
+    );
     let slots = replay::mix_u32(replay::mix_u32(header, versions), links);
     let elements = replay::mix_u64(replay::mix_u64(slots, keys), values);
     replay::mix_u32(elements, places)
@@ -202,11 +205,12 @@ fn insert(
     keys: &mut [u64],
     values: &mut [u64],
     x: u64,
-) -> Call {
+) -> Made {
     let r = dense_enter::insert(h, versions, links, keys, values, x);
+    let g = r.header;
     let key = r.answer;
-    Call {
-        header: r.header,
+    Made {
+        header: g,
         answer: issued(key),
     }
 }
@@ -219,11 +223,12 @@ fn reattach(
     values: &mut [u64],
     k: u64,
     x: u64,
-) -> Call {
+) -> Made {
     let r = dense_enter::reattach(h, versions, links, keys, values, k, x);
+    let g = r.header;
     let verdict = r.answer;
-    Call {
-        header: r.header,
+    Made {
+        header: g,
         answer: done(verdict),
     }
 }
@@ -237,7 +242,7 @@ fn enter(
     op: u8,
     k: u64,
     x: u64,
-) -> Call {
+) -> Made {
     if op == b'i' {
         return insert(h, versions, links, keys, values, x);
     }
@@ -245,7 +250,7 @@ fn enter(
         return reattach(h, versions, links, keys, values, k, x);
     }
     let old = dense_enter::put(h, versions, links, keys, values, k, x);
-    Call {
+    Made {
         header: h,
         answer: value(old),
     }
@@ -260,11 +265,12 @@ fn remove(
     keys: &mut [u64],
     values: &mut [u64],
     k: u64,
-) -> Call {
+) -> Made {
     let r = dense_leave::remove(h, versions, links, keys, values, k);
+    let g = r.header;
     let old = r.answer;
-    Call {
-        header: r.header,
+    Made {
+        header: g,
         answer: value(old),
     }
 }
@@ -276,11 +282,12 @@ fn detach(
     keys: &mut [u64],
     values: &mut [u64],
     k: u64,
-) -> Call {
+) -> Made {
     let r = dense_leave::detach(h, versions, links, keys, values, k);
+    let g = r.header;
     let old = r.answer;
-    Call {
-        header: r.header,
+    Made {
+        header: g,
         answer: value(old),
     }
 }
@@ -293,19 +300,21 @@ fn drain(
     keys: &[u64],
     values: &[u64],
     lent: bool,
-) -> Call {
+) -> Made {
     if lent {
         let a = dense_lent::drain_step_by(h, versions, links, keys, values);
+        let g = a.header;
         let first = a.answer;
-        return Call {
-            header: a.header,
+        return Made {
+            header: g,
             answer: drained(first),
         };
     }
     let b = dense_leave::drain_step(h, versions, links, keys, values);
+    let next = b.header;
     let second = b.answer;
-    Call {
-        header: b.header,
+    Made {
+        header: next,
         answer: drained(second),
     }
 }
@@ -318,7 +327,7 @@ fn leave(
     values: &mut [u64],
     op: u8,
     k: u64,
-) -> Call {
+) -> Made {
     if op == b'r' {
         return remove(h, versions, links, keys, values, k);
     }
@@ -351,26 +360,22 @@ fn retain(
     keys: &mut [u64],
     values: &mut [u64],
     kept: Rule,
-) -> Call {
+) -> Made {
     let r = dense_sweep::retain(h, versions, links, keys, values, kept);
+    let g = r.header;
     let verdict = r.answer;
-    Call {
-        header: r.header,
+    Made {
+        header: g,
         answer: done(verdict),
     }
 }
 
-fn clear(
-    h: Header,
-    versions: &mut [u32],
-    links: &mut [u32],
-    keys: &[u64],
-    values: &[u64],
-) -> Call {
+fn clear(h: Header, versions: &mut [u32], links: &mut [u32], keys: &[u64], values: &[u64]) -> Made {
     let r = dense_sweep::clear(h, versions, links, keys, values);
+    let g = r.header;
     let verdict = r.answer;
-    Call {
-        header: r.header,
+    Made {
+        header: g,
         answer: done(verdict),
     }
 }
@@ -423,15 +428,15 @@ pub fn call(
     a: u64,
     b: u64,
     c: u64,
-) -> Call {
+) -> Made {
     if looks(op) {
-        return Call {
+        return Made {
             header: h,
             answer: look(h, versions, links, keys, values, places, op),
         };
     }
     if looks_at(op) {
-        return Call {
+        return Made {
             header: h,
             answer: look_at(h, versions, links, keys, values, op, key_number(b, c)),
         };

@@ -1,0 +1,16 @@
+-- `read_all` ends after so many turns. Assumes nothing.
+use Prim.Native.Nat.{_≤_}
+use borrow.Author.Needs.{needs}
+use native.Mathlib.Omega.{arith}
+use Rattle.replay_dense.proofs.read_all.Statement.{statement}
+use Rattle.replay_dense.proofs.read_all.Tie as tie
+
+abbrev Inv-loop : tie.InvT-loop
+Inv-loop versions₀ links₀ keys₀ values₀ places₀ wanted₀ kept₀ bytes₀ now₀ turns₀ versions links keys values places wanted kept bytes now turns =
+    turns ≤ turns₀
+
+abbrev μ-loop : tie.MeasureT-loop
+μ-loop versions₀ links₀ keys₀ values₀ places₀ wanted₀ kept₀ bytes₀ now₀ turns₀ versions links keys values places wanted kept bytes now turns = turns
+
+pub read-all-spec : {M : Type 1} → statement M
+read-all-spec = tie.close (tie.spec Inv-loop μ-loop (λ c. search needs) (λ c κs. search needs) (λ c. search needs) (λ c. search needs) (λ c. search needs) (λ c. search needs) (λ c. search needs))
