@@ -90,13 +90,13 @@ pub struct Dense {
     keys: Vec<u64>,
     values: Vec<u64>,
     wanted: Vec<u64>,
+    /// The output of disjoint, in the lists that have it.
     places: Vec<u32>,
     buffer: Vec<u8>,
-    alphabet: Vec<Line>,
 }
 
 impl Dense {
-    pub fn new() -> Dense {
+    pub fn new(output: usize) -> Dense {
         let mut t = Dense {
             m: Map::new(),
             c: 0,
@@ -106,9 +106,8 @@ impl Dense {
             keys: vec![FILL64; LIMIT],
             values: vec![FILL64; LIMIT],
             wanted: vec![],
-            places: vec![FILL32; OUTPUT],
+            places: vec![FILL32; output],
             buffer: vec![0x5a; BUFFER],
-            alphabet: vec![],
         };
         t.begin(0);
         t
@@ -225,7 +224,6 @@ impl Dense {
                 }
                 Err(n) => Answer::Refused(n),
             },
-            b'X' => self.sequences(b as usize, c as usize),
             op => panic!("call {}", op as char),
         }
     }
@@ -307,26 +305,6 @@ impl Dense {
             return Answer::Bytes(bytes);
         }
         Answer::Digest(mix_all(mix(0, bytes.len() as u64), self.buffer[..room].iter().map(|b| *b as u64)))
-    }
-
-    pub fn keep(&mut self, line: Line) {
-        self.alphabet.push(line);
-    }
-
-    /// Every sequence of five of the kept calls that begins with these two, each on a fresh table: one digest of all answers and states.
-    fn sequences(&mut self, first: usize, second: usize) -> Answer {
-        let alphabet = std::mem::take(&mut self.alphabet);
-        let n = alphabet.len();
-        let mut h = 0;
-        for t in 0..n * n * n {
-            self.begin(self.c);
-            for i in [first, second, t / (n * n), t / n % n, t % n] {
-                h = self.call(&alphabet[i]).fold(h);
-                h = mix(h, self.digest());
-            }
-        }
-        self.alphabet = alphabet;
-        Answer::Digest(h)
     }
 }
 

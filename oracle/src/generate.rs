@@ -1,5 +1,5 @@
 //! The call lists. Each is made by running the crate beside it, so that most keys are live ones; the others are detached, old or bent in one field.
-use crate::dense::{number, Dense};
+use crate::dense::{number, Dense, OUTPUT};
 use crate::image;
 use crate::lines::{hex, named, Answer, Line};
 
@@ -89,6 +89,9 @@ pub fn some_image(dice: &mut Dice, c: u64, free: u64) -> Vec<u8> {
     out
 }
 
+/// The odds of a rebuild in a list that has none.
+const NEVER: u64 = u64::MAX;
+
 /// A list under way.
 pub struct List {
     pub text: String,
@@ -143,23 +146,34 @@ fn a_retain(dice: &mut Dice, t: &Dense, op: u8) -> String {
     }
 }
 
-const GROWING: &[(u8, u64)] = &[(b'i', 50), (b'r', 8), (b'd', 4), (b'a', 6), (b'g', 8), (b'p', 8), (b'c', 4), (b'o', 4), (b'n', 4), (b'j', 3), (b'z', 1), (b'y', 1), (b'l', 1), (b'f', 1), (b't', 1)];
-const SHRINKING: &[(u8, u64)] = &[(b'i', 12), (b'r', 24), (b'd', 6), (b'a', 10), (b'g', 8), (b'p', 6), (b'c', 4), (b'o', 4), (b'n', 4), (b'j', 4), (b'z', 4), (b'y', 4), (b'l', 2), (b'f', 2), (b't', 2), (b'v', 3), (b'm', 3), (b'x', 3), (b'e', 8)];
-const STEADY: &[(u8, u64)] = &[(b'i', 20), (b'r', 14), (b'd', 10), (b'a', 12), (b'g', 8), (b'p', 7), (b'c', 4), (b'o', 4), (b'n', 5), (b'j', 4), (b'z', 2), (b'y', 2), (b'l', 2), (b'f', 2), (b't', 2), (b'v', 3), (b'm', 3), (b'x', 3)];
+/// How often each kind of call comes, while a table grows, shrinks or stays as large as it is.
+type Moods = [&'static [(u8, u64)]; 3];
+
+const DENSE: Moods = [
+    &[(b'i', 50), (b'r', 8), (b'd', 4), (b'a', 6), (b'g', 8), (b'p', 8), (b'c', 4), (b'o', 4), (b'n', 4), (b'l', 1), (b'f', 1), (b't', 1)],
+    &[(b'i', 10), (b'r', 30), (b'd', 8), (b'a', 12), (b'g', 8), (b'p', 8), (b'c', 4), (b'o', 4), (b'n', 4), (b'l', 2), (b'f', 2), (b't', 2)],
+    &[(b'i', 20), (b'r', 16), (b'd', 12), (b'a', 14), (b'g', 8), (b'p', 8), (b'c', 4), (b'o', 4), (b'n', 5), (b'l', 2), (b'f', 2), (b't', 2)],
+];
+
+const SWEEP: Moods = [
+    &[(b'i', 60), (b'z', 2), (b'y', 2), (b'j', 10), (b'v', 1), (b'm', 1), (b'x', 1)],
+    &[(b'i', 20), (b'z', 8), (b'y', 8), (b'j', 10), (b'v', 5), (b'm', 5), (b'x', 5), (b'e', 6)],
+    &[(b'i', 30), (b'z', 5), (b'y', 5), (b'j', 12), (b'v', 4), (b'm', 4), (b'x', 4), (b'e', 3)],
+];
 
 /// Calls on a table of C, by the crate's own answers. Whole states are asked every 40 calls, and after each sweep, drain step and rebuild.
-fn dense_part(dice: &mut Dice, list: &mut List, t: &mut Dense, c: usize, calls: usize, rebuilds: u64) {
+fn dense_part(dice: &mut Dice, list: &mut List, t: &mut Dense, moods: &Moods, c: usize, calls: usize, rebuilds: u64) {
     let say = |list: &mut List, t: &mut Dense, line: &str| -> Answer {
         list.add(line);
         t.call(&Line::parse(line))
     };
     let mut known = Known { old: vec![1 << 32 | 1], away: vec![] };
     say(list, t, &format!("C{c}"));
-    let mut mood = GROWING;
+    let mut mood = moods[0];
     for i in 0..calls {
         if i % (c / 2 + 25) == 0 {
             let turn = dice.roll(4);
-            mood = if c > 20 && i < 2 * c { GROWING } else { [GROWING, SHRINKING, STEADY, STEADY][turn as usize] };
+            mood = if c > 20 && i < 2 * c { moods[0] } else { moods[[0, 1, 2, 2][turn as usize]] };
         }
         if list.since >= 40 {
             say(list, t, "s");
@@ -176,7 +190,7 @@ fn dense_part(dice: &mut Dice, list: &mut List, t: &mut Dense, c: usize, calls: 
         // a large table is swept seldom, and a clear is for small ones
         let sweep = matches!(op, b'v' | b'm' | b'x');
         if c > 20 && (op == b'e' && dice.roll(30) > 0 || sweep && dice.roll(6) > 0) {
-            op = b'r';
+            op = b'i';
         }
         let k = known.key(dice, t, op == b'a');
         let v = some_value(dice);
@@ -214,33 +228,54 @@ fn dense_part(dice: &mut Dice, list: &mut List, t: &mut Dense, c: usize, calls: 
     say(list, t, "s");
 }
 
-/// The calls of the sequences, each with its own letter and numbers.
-const ALPHABET: [&str; 12] = ["i7", "r1 1", "r2 1", "r1 3", "d1 1", "d2 1", "a1 1 8", "a2 1 9", "z", "x2 2", "m1 0", "e"];
+/// Every sequence of five calls of an alphabet, each on a fresh table, with the whole state after it.
+fn sequences(list: &mut List, c: usize, alphabet: &[&str]) {
+    let n = alphabet.len();
+    for t in 0..n.pow(5) {
+        list.add(&format!("C{c}"));
+        for place in (0..5).rev() {
+            list.add(alphabet[t / n.pow(place) % n]);
+        }
+        list.add("s");
+    }
+}
 
 pub fn dense() -> String {
     let mut dice = Dice::new(1);
     let mut list = List::new();
-    let mut t = Dense::new();
+    let mut t = Dense::new(0);
     for _ in 0..700 {
-        dense_part(&mut dice, &mut list, &mut t, 0, 2, 20);
-        dense_part(&mut dice, &mut list, &mut t, 1, 20, 30);
-        dense_part(&mut dice, &mut list, &mut t, 2, 30, 40);
+        dense_part(&mut dice, &mut list, &mut t, &DENSE, 0, 2, NEVER);
+        dense_part(&mut dice, &mut list, &mut t, &DENSE, 1, 20, NEVER);
+        dense_part(&mut dice, &mut list, &mut t, &DENSE, 2, 20, NEVER);
     }
-    for _ in 0..20 {
-        dense_part(&mut dice, &mut list, &mut t, 20, 5_000, 120);
+    for _ in 0..10 {
+        dense_part(&mut dice, &mut list, &mut t, &DENSE, 20, 5_000, NEVER);
     }
-    dense_part(&mut dice, &mut list, &mut t, 1_000, 30_000, 10_000);
-    dense_part(&mut dice, &mut list, &mut t, 4_096, 30_000, u64::MAX);
-    for call in ALPHABET {
-        list.add(&format!("+{call}"));
+    dense_part(&mut dice, &mut list, &mut t, &DENSE, 1_000, 20_000, NEVER);
+    dense_part(&mut dice, &mut list, &mut t, &DENSE, 4_096, 20_000, NEVER);
+    sequences(&mut list, 0, &["i7", "r1 1", "a1 1 8"]);
+    sequences(&mut list, 1, &["i7", "r1 1", "d1 1", "a1 1 8"]);
+    sequences(&mut list, 2, &["i7", "r1 1", "r2 1", "d1 1", "a1 1 8"]);
+    list.text
+}
+
+pub fn sweep() -> String {
+    let mut dice = Dice::new(2);
+    let mut list = List::new();
+    let mut t = Dense::new(OUTPUT);
+    for _ in 0..40 {
+        dense_part(&mut dice, &mut list, &mut t, &SWEEP, 0, 2, 20);
+        dense_part(&mut dice, &mut list, &mut t, &SWEEP, 1, 100, 20);
+        dense_part(&mut dice, &mut list, &mut t, &SWEEP, 2, 150, 25);
     }
-    for c in 0..3 {
-        list.add(&format!("C{c}"));
-        for first in 0..ALPHABET.len() {
-            for second in 0..ALPHABET.len() {
-                list.add(&format!("X{first} {second}"));
-            }
-        }
+    for _ in 0..6 {
+        dense_part(&mut dice, &mut list, &mut t, &SWEEP, 20, 5_000, 100);
     }
+    dense_part(&mut dice, &mut list, &mut t, &SWEEP, 1_000, 10_000, 3_000);
+    dense_part(&mut dice, &mut list, &mut t, &SWEEP, 4_096, 14_000, NEVER);
+    sequences(&mut list, 0, &["i7", "z", "e"]);
+    sequences(&mut list, 1, &["i7", "z", "x0 0", "e"]);
+    sequences(&mut list, 2, &["i7", "i8", "z", "x2 2", "m1 0"]);
     list.text
 }

@@ -1,10 +1,9 @@
 //! What calls and answers look like as text, and the digest of many numbers. The replay programs read and write the same.
 use std::fmt;
 
-/// A call: a letter and up to three numbers, or a letter and bytes in hexadecimal. A call with `+` before it is kept for the sequences and not made.
+/// A call: a letter and up to three numbers, or a letter and bytes in hexadecimal.
 pub struct Line {
     pub op: u8,
-    pub kept: bool,
     pub a: u64,
     pub b: u64,
     pub c: u64,
@@ -14,11 +13,9 @@ pub struct Line {
 impl Line {
     /// The last number of a line is c, the one before it b, the one before that a.
     pub fn parse(text: &str) -> Line {
-        let kept = text.starts_with('+');
-        let text = text.strip_prefix('+').unwrap_or(text);
         let op = text.as_bytes()[0];
         let rest = &text[1..];
-        let mut line = Line { op, kept, a: 0, b: 0, c: 0, bytes: vec![] };
+        let mut line = Line { op, a: 0, b: 0, c: 0, bytes: vec![] };
         if op == b'R' || op == b'J' {
             line.bytes = (0..rest.len() / 2).map(|i| u8::from_str_radix(&rest[2 * i..2 * i + 2], 16).unwrap()).collect();
         } else if !rest.is_empty() {
@@ -63,27 +60,6 @@ pub enum Answer {
     Ignored,
     Digest(u64),
     Bytes(Vec<u8>),
-}
-
-impl Answer {
-    /// The answer folded into a digest: which kind it is, then its numbers. Places stand in the output, which the state has.
-    pub fn fold(&self, h: u64) -> u64 {
-        let (kind, a, b, c) = match self {
-            Answer::Done => (0, 0, 0, 0),
-            Answer::Refused(n) => (1, *n as u64, 0, 0),
-            Answer::Number(x) => (2, *x, 0, 0),
-            Answer::Key(k) => (3, *k, 0, 0),
-            Answer::Pair(k, v) => (4, *k, *v, 0),
-            Answer::Step(k, v, next) => (5, *k, *v, *next),
-            Answer::Places(p) => (6, p.len() as u64, 0, 0),
-            Answer::Digest(d) => (7, *d, 0, 0),
-            Answer::Counts(slots, live) => (8, *slots, *live, 0),
-            Answer::Kept => (10, 0, 0, 0),
-            Answer::Ignored => (11, 0, 0, 0),
-            Answer::Silent | Answer::Bytes(_) => panic!("not in a sequence"),
-        };
-        mix_all(h, [kind, a, b, c].into_iter())
-    }
 }
 
 fn key_text(k: u64) -> String {

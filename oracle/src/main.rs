@@ -1,7 +1,7 @@
 //! Makes lists of calls and answers them by the crate slotmap 1.1.1, unchanged. `regenerate` builds and runs it.
 //!   oracle calls WHICH             writes the list to standard output
 //!   oracle answers WHICH           answers the list on standard input, and counts the accepted and the refused calls on standard error
-//! WHICH is dense, image or secondary.
+//! WHICH is dense, sweep, image or secondary.
 mod dense;
 mod generate;
 mod image;
@@ -46,24 +46,22 @@ fn answers(mut call: impl FnMut(Line) -> Answer) {
     eprintln!("calls {total}");
 }
 
+fn answers_dense(output: usize) {
+    let mut t = dense::Dense::new(output);
+    answers(|line| t.call(&line));
+}
+
 fn main() {
     hush();
     let words: Vec<String> = std::env::args().skip(1).collect();
     let words: Vec<&str> = words.iter().map(|w| w.as_str()).collect();
     match words[..] {
         ["calls", "dense"] => print!("{}", generate::dense()),
-        ["answers", "dense"] => {
-            let mut t = dense::Dense::new();
-            answers(|line| {
-                if line.kept {
-                    t.keep(line);
-                    return Answer::Silent;
-                }
-                t.call(&line)
-            })
-        }
+        ["calls", "sweep"] => print!("{}", generate::sweep()),
+        ["answers", "dense"] => answers_dense(0),
+        ["answers", "sweep"] => answers_dense(dense::OUTPUT),
         _ => {
-            eprintln!("usage: oracle calls|answers dense|image|secondary");
+            eprintln!("usage: oracle calls|answers dense|sweep|image|secondary");
             std::process::exit(2);
         }
     }

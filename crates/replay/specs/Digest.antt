@@ -20,9 +20,6 @@ abbrev pub mixedAll : ℕ → List ℕ → ℕ
 mixedAll h [] = h
 mixedAll h (x ∷ xs) = mixedAll (mixed h x) xs
 
--- an answer of a kind and three numbers; and the digest with an answer more
+-- an answer of a kind and three numbers
 abbrev pub answered : ℕ → ℕ → ℕ → ℕ → Answer
 answered k x y z = record { kind = k; a = x; b = y; c = z }
-
-abbrev pub folded : ℕ → Answer → ℕ
-folded h r = mixed (mixed (mixed (mixed h (r .kind)) (r .a)) (r .b)) (r .c)

@@ -2,7 +2,7 @@
 ghost use mathlib.Core.Path.{_≡_};
 ghost use Prim.Native.Nat.{_<_};
 ghost use Rattle.refusal.specs.Refusals.{numberOf};
-ghost use Rattle.replay.specs.Digest.{mixed, mixedAll, answered, folded};
+ghost use Rattle.replay.specs.Digest.{mixed, mixedAll, answered};
 ghost use Rattle.replay.specs.Lines.{blank, longer, taken};
 use keys::KeyData;
 use libc::STDOUT_FILENO;
@@ -10,10 +10,9 @@ use refusal::Refusal;
 
 // ---- lines
 
-// A line so far: its letter, whether it is kept for the sequences, and its last three numbers, the last being c.
+// A line so far: its letter and its last three numbers, the last being c.
 pub struct Line {
     pub op: u8,
-    pub kept: bool,
     pub a: u64,
     pub b: u64,
     pub c: u64,
@@ -49,7 +48,6 @@ impl Line {
     {
         Line {
             op: 0,
-            kept: false,
             a: 0,
             b: 0,
             c: 0,
@@ -61,18 +59,8 @@ impl Line {
         ensures { λ r. ⌜ r ≡ taken self byte ⌝ }
     {
         if self.op == 0 {
-            if byte == b'+' {
-                return Line {
-                    op: 0,
-                    kept: true,
-                    a: self.a,
-                    b: self.b,
-                    c: self.c,
-                };
-            }
             return Line {
                 op: byte,
-                kept: self.kept,
                 a: self.a,
                 b: self.b,
                 c: self.c,
@@ -81,7 +69,6 @@ impl Line {
         if byte == b' ' {
             return Line {
                 op: self.op,
-                kept: self.kept,
                 a: self.b,
                 b: self.c,
                 c: 0,
@@ -89,7 +76,6 @@ impl Line {
         }
         Line {
             op: self.op,
-            kept: self.kept,
             a: self.a,
             b: self.b,
             c: with_digit(self.c, wide(byte) % 16),
@@ -119,6 +105,10 @@ pub const DIGEST: u64 = 7;
 pub const COUNTS: u64 = 8;
 // The answer has been written, all but its newline.
 pub const WRITTEN: u64 = 9;
+// A secondary insert that stored nothing, at a newer version or at the null key.
+pub const KEPT: u64 = 10;
+
+pub const IGNORED: u64 = 11;
 
 // An answer: its kind and up to three numbers.
 pub struct Answer {
@@ -214,6 +204,12 @@ fn print_kind(answer: Answer, places: &[u32]) {
     if kind == WRITTEN {
         return;
     }
+    if kind == KEPT {
+        return text(b"k");
+    }
+    if kind == IGNORED {
+        return text(b"i");
+    }
     print_key(answer.a);
     if kind == PAIR {
         return print_next(answer.b);
@@ -278,11 +274,4 @@ pub fn mix_u64(h: u64, list: &[u64]) -> u64
         i += 1;
     }
     d
-}
-
-// The digest with an answer more.
-pub fn fold(h: u64, answer: Answer) -> u64
-    ensures { λ r. ⌜ r ≡ folded h answer ⌝ }
-{
-    mix(mix(mix(mix(h, answer.kind), answer.a), answer.b), answer.c)
 }
