@@ -2,6 +2,7 @@
 use crate::dense::{number, Dense, OUTPUT};
 use crate::image;
 use crate::lines::{hex, named, Answer, Line};
+use crate::secondary::Secondary;
 
 /// A deterministic source of choices.
 pub struct Dice(u64);
@@ -132,10 +133,10 @@ impl Known {
     }
 }
 
-fn a_retain(dice: &mut Dice, t: &Dense, op: u8) -> String {
+fn a_retain(dice: &mut Dice, c: usize, op: u8) -> String {
     // large tables lose few elements a time, small ones any number
-    let few = t.c > 20 && dice.roll(8) > 0;
-    let c = t.c as u64;
+    let few = c > 20 && dice.roll(8) > 0;
+    let c = c as u64;
     match op {
         b'v' if few => format!("v{} {}", dice.roll(2), u64::MAX - dice.roll(3)),
         b'v' => format!("v{} {}", dice.roll(40), 30 + dice.roll(70)),
@@ -198,7 +199,7 @@ fn dense_part(dice: &mut Dice, list: &mut List, t: &mut Dense, moods: &Moods, c:
             b'i' => format!("i{v}"),
             b'p' | b'a' => format!("{}{} {v}", op as char, named(k)),
             b'r' | b'd' | b'g' | b'c' | b'o' => format!("{}{}", op as char, named(k)),
-            b'v' | b'm' | b'x' => a_retain(dice, t, op),
+            b'v' | b'm' | b'x' => a_retain(dice, c, op),
             _ => (op as char).to_string(),
         };
         if op == b'j' {
@@ -229,10 +230,10 @@ fn dense_part(dice: &mut Dice, list: &mut List, t: &mut Dense, moods: &Moods, c:
 }
 
 /// Every sequence of five calls of an alphabet, each on a fresh table, with the whole state after it.
-fn sequences(list: &mut List, c: usize, alphabet: &[&str]) {
+fn sequences(list: &mut List, begin: &str, alphabet: &[&str]) {
     let n = alphabet.len();
     for t in 0..n.pow(5) {
-        list.add(&format!("C{c}"));
+        list.add(begin);
         for place in (0..5).rev() {
             list.add(alphabet[t / n.pow(place) % n]);
         }
@@ -254,9 +255,9 @@ pub fn dense() -> String {
     }
     dense_part(&mut dice, &mut list, &mut t, &DENSE, 1_000, 20_000, NEVER);
     dense_part(&mut dice, &mut list, &mut t, &DENSE, 4_096, 20_000, NEVER);
-    sequences(&mut list, 0, &["i7", "r1 1", "a1 1 8"]);
-    sequences(&mut list, 1, &["i7", "r1 1", "d1 1", "a1 1 8"]);
-    sequences(&mut list, 2, &["i7", "r1 1", "r2 1", "d1 1", "a1 1 8"]);
+    sequences(&mut list, "C0", &["i7", "r1 1", "a1 1 8"]);
+    sequences(&mut list, "C1", &["i7", "r1 1", "d1 1", "a1 1 8"]);
+    sequences(&mut list, "C2", &["i7", "r1 1", "r2 1", "d1 1", "a1 1 8"]);
     list.text
 }
 
@@ -274,8 +275,107 @@ pub fn sweep() -> String {
     }
     dense_part(&mut dice, &mut list, &mut t, &SWEEP, 1_000, 10_000, 3_000);
     dense_part(&mut dice, &mut list, &mut t, &SWEEP, 4_096, 14_000, NEVER);
-    sequences(&mut list, 0, &["i7", "z", "e"]);
-    sequences(&mut list, 1, &["i7", "z", "x0 0", "e"]);
-    sequences(&mut list, 2, &["i7", "i8", "z", "x2 2", "m1 0"]);
+    sequences(&mut list, "C0", &["i7", "z", "e"]);
+    sequences(&mut list, "C1", &["i7", "z", "x0 0", "e"]);
+    sequences(&mut list, "C2", &["i7", "i8", "z", "x2 2", "m1 0"]);
+    list.text
+}
+
+// ---- the secondary map
+
+const SECONDARY: Moods = [
+    &[(b'i', 60), (b'p', 6), (b'r', 6), (b'g', 6), (b'c', 4), (b'o', 5), (b'z', 1), (b'y', 3), (b'j', 5), (b'l', 3), (b'f', 3)],
+    &[(b'i', 24), (b'p', 6), (b'r', 20), (b'g', 6), (b'c', 4), (b'o', 6), (b'z', 8), (b'y', 4), (b'j', 8), (b'v', 6), (b'm', 6), (b'x', 6), (b'e', 14), (b'l', 4), (b'f', 4)],
+    &[(b'i', 34), (b'p', 8), (b'r', 10), (b'g', 8), (b'c', 5), (b'o', 8), (b'z', 4), (b'y', 5), (b'j', 12), (b'v', 6), (b'm', 6), (b'x', 6), (b'e', 3), (b'l', 4), (b'f', 4)],
+];
+
+/// A version for an insert: odd, below 2^31, where the port orders versions as the crate does.
+fn young_version(dice: &mut Dice) -> u64 {
+    match dice.roll(8) {
+        0 => 0x7fff_ffff - 2 * dice.roll(4),
+        1 => 1 + 2 * dice.roll(200),
+        _ => 1 + 2 * dice.roll(3),
+    }
+}
+
+fn secondary_part(dice: &mut Dice, list: &mut List, t: &mut Secondary, l: usize, calls: usize) {
+    let say = |list: &mut List, t: &mut Secondary, line: &str| {
+        list.add(line);
+        t.call(&Line::parse(line));
+    };
+    let some_key = |dice: &mut Dice, t: &Secondary| -> u64 {
+        let n = t.m.len() as u64;
+        if n == 0 || dice.roll(12) == 0 {
+            return young_version(dice) << 32 | dice.roll(l as u64 + 2);
+        }
+        let live = number(t.m.keys().nth(dice.roll(n) as usize).unwrap());
+        if dice.roll(8) == 0 {
+            return bent(dice, live, l as u64);
+        }
+        live
+    };
+    say(list, t, &format!("L{l}"));
+    let mut mood = SECONDARY[0];
+    for i in 0..calls {
+        if i % (l / 2 + 25) == 0 {
+            let turn = dice.roll(4);
+            mood = if l > 21 && i < l { SECONDARY[0] } else { SECONDARY[[0, 1, 2, 2][turn as usize]] };
+        }
+        if list.since >= 40 {
+            say(list, t, "s");
+            list.since = 0;
+        }
+        let mut op = dice.kind(mood);
+        let sweep = matches!(op, b'v' | b'm' | b'x');
+        if l > 21 && (op == b'e' && dice.roll(30) > 0 || sweep && dice.roll(6) > 0) {
+            op = b'i';
+        }
+        let k = some_key(dice, t);
+        let v = some_value(dice);
+        let place = if dice.roll(2) == 0 { 0 } else { dice.roll(l as u64 + 1) };
+        let line = match op {
+            b'i' => {
+                // half go to any slot, half to a live key's, where the version decides
+                let idx = if dice.roll(2) == 0 { k & 0xffff_ffff } else { dice.roll(l as u64) };
+                let version = if k >> 63 == 0 && dice.roll(2) == 0 { k >> 32 } else { young_version(dice) };
+                format!("i{} {v}", named(version << 32 | idx))
+            }
+            b'p' => format!("p{} {v}", named(k)),
+            b'r' | b'g' | b'c' | b'o' => format!("{}{}", op as char, named(k)),
+            b'y' | b'z' => format!("{}{place}", op as char),
+            b'v' | b'm' | b'x' => a_retain(dice, l - 1, op),
+            _ => (op as char).to_string(),
+        };
+        if op == b'j' {
+            for _ in 0..dice.pick(&[0, 1, 2, 2, 3, 3, 4, 8]) {
+                let k = some_key(dice, t);
+                say(list, t, &format!("k{}", named(k)));
+            }
+        }
+        say(list, t, &line);
+        if matches!(op, b'z' | b'v' | b'm' | b'x' | b'e') {
+            say(list, t, "s");
+        }
+    }
+    say(list, t, "s");
+}
+
+pub fn secondary() -> String {
+    let mut dice = Dice::new(3);
+    let mut list = List::new();
+    let mut t = Secondary::new();
+    for _ in 0..350 {
+        secondary_part(&mut dice, &mut list, &mut t, 1, 4);
+        secondary_part(&mut dice, &mut list, &mut t, 2, 20);
+        secondary_part(&mut dice, &mut list, &mut t, 3, 20);
+    }
+    for _ in 0..80 {
+        secondary_part(&mut dice, &mut list, &mut t, 21, 500);
+    }
+    secondary_part(&mut dice, &mut list, &mut t, 1_001, 8_000);
+    secondary_part(&mut dice, &mut list, &mut t, 4_097, 10_000);
+    sequences(&mut list, "L1", &["i1 1 7", "r1 1", "z0"]);
+    sequences(&mut list, "L2", &["i1 1 7", "i1 3 8", "r1 1", "z0"]);
+    sequences(&mut list, "L3", &["i1 1 7", "i2 1 8", "i1 3 9", "r1 1"]);
     list.text
 }

@@ -6,6 +6,7 @@ mod dense;
 mod generate;
 mod image;
 mod lines;
+mod secondary;
 
 use lines::{Answer, Line};
 use std::collections::BTreeMap;
@@ -58,8 +59,13 @@ fn main() {
     match words[..] {
         ["calls", "dense"] => print!("{}", generate::dense()),
         ["calls", "sweep"] => print!("{}", generate::sweep()),
+        ["calls", "secondary"] => print!("{}", generate::secondary()),
         ["answers", "dense"] => answers_dense(0),
         ["answers", "sweep"] => answers_dense(dense::OUTPUT),
+        ["answers", "secondary"] => {
+            let mut t = secondary::Secondary::new();
+            answers(|line| t.call(&line));
+        }
         _ => {
             eprintln!("usage: oracle calls|answers dense|sweep|image|secondary");
             std::process::exit(2);

@@ -68,9 +68,9 @@ fn act_on(
     keys: &mut [u64],
     values: &mut [u64],
     places: &mut [u32],
-    wanted: &[u64],
+    wanted: &[u64; 8],
     count: usize,
-    bytes: &[u8],
+    bytes: &[u8; 65600],
     c: usize,
     r: Reader,
 ) -> Made {
@@ -101,19 +101,21 @@ fn act_on(
     )
 }
 
-// The keys that wait for a disjoint after a line: one more, or none once they are asked for.
-fn want(wanted: &mut [u64; 8], count: usize, op: u8, k: u64) -> usize {
-    if op == b'j' {
-        return 0;
-    }
-    if op != b'k' {
-        return count;
-    }
+// A key more for the next disjoint. Answers how many there are.
+fn want(wanted: &mut [u64; 8], count: usize, k: u64) -> usize {
     if 8 <= count {
         return count;
     }
     wanted[count] = k;
     count + 1
+}
+
+// How many keys wait after a call: a disjoint takes them all.
+fn waiting(op: u8, count: usize) -> usize {
+    if op == b'j' {
+        return 0;
+    }
+    count
 }
 
 fn main() {
@@ -138,30 +140,27 @@ fn main() {
         }
         let line = r.line;
         c = calls::size(line, c);
-        if line.op != b'k' {
-            let made = act_on(
-                h,
-                &mut versions,
-                &mut links,
-                &mut keys,
-                &mut values,
-                &mut places,
-                &wanted,
-                count,
-                &bytes,
-                c,
-                r,
-            );
-            let answer = made.answer;
-            let g = made.header;
-            h = g;
-            replay::print(answer, &places);
+        if line.op == b'k' {
+            count = want(&mut wanted, count, calls::key_number(line.b, line.c));
+            continue;
         }
-        count = want(
-            &mut wanted,
+        let made = act_on(
+            h,
+            &mut versions,
+            &mut links,
+            &mut keys,
+            &mut values,
+            &mut places,
+            &wanted,
             count,
-            line.op,
-            calls::key_number(line.b, line.c),
+            &bytes,
+            c,
+            r,
         );
+        let answer = made.answer;
+        let g = made.header;
+        h = g;
+        replay::print(answer, &places);
+        count = waiting(line.op, count);
     }
 }
