@@ -211,6 +211,7 @@ impl Dense {
                 Answer::Digest(mix_all(h, self.m.values_as_slice().iter().copied()))
             }
             b's' => Answer::Digest(self.digest()),
+            b'N' => Answer::Number(image::bytes(&self.m).len() as u64),
             b'W' | b'D' => self.write(line.op, c as usize),
             b'J' => match image::map(&line.bytes, self.c as u64 + 1) {
                 Ok(m) => Answer::Counts(state(&m).versions.len() as u64, m.len() as u64),

@@ -75,15 +75,21 @@ pub fn bent(dice: &mut Dice, k: u64, slots: u64) -> u64 {
 
 /// An image whose slots fit C, with versions from `some_version`; one slot in `free` is vacant.
 pub fn some_image(dice: &mut Dice, c: u64, free: u64) -> Vec<u8> {
+    image_but(dice, c, free, 0)
+}
+
+/// The same, but for one slot whose version and presence contradict each other.
+fn image_but(dice: &mut Dice, c: u64, free: u64, wrong: u64) -> Vec<u8> {
     let s = 1 + if dice.roll(3) == 0 { c } else { dice.roll(c + 1) };
     let mut out = vec![];
     image::push_number(&mut out, s);
     out.extend([0, 0]);
-    for _ in 1..s {
+    for i in 1..s {
         let odd = dice.roll(free) > 0;
+        let there = odd != (i == wrong);
         image::push_number(&mut out, some_version(dice) & !1 | odd as u64);
-        out.push(odd as u8);
-        if odd {
+        out.push(there as u8);
+        if there {
             image::push_number(&mut out, some_value(dice));
         }
     }
@@ -151,15 +157,15 @@ fn a_retain(dice: &mut Dice, c: usize, op: u8) -> String {
 type Moods = [&'static [(u8, u64)]; 3];
 
 const DENSE: Moods = [
-    &[(b'i', 50), (b'r', 8), (b'd', 4), (b'a', 6), (b'g', 8), (b'p', 8), (b'c', 4), (b'o', 4), (b'n', 4), (b'l', 1), (b'f', 1), (b't', 1)],
+    &[(b'i', 50), (b'r', 8), (b'd', 4), (b'a', 6), (b'g', 8), (b'p', 8), (b'c', 4), (b'o', 4), (b'n', 4), (b'l', 2), (b'f', 2), (b't', 2)],
     &[(b'i', 10), (b'r', 30), (b'd', 8), (b'a', 12), (b'g', 8), (b'p', 8), (b'c', 4), (b'o', 4), (b'n', 4), (b'l', 2), (b'f', 2), (b't', 2)],
-    &[(b'i', 20), (b'r', 16), (b'd', 12), (b'a', 14), (b'g', 8), (b'p', 8), (b'c', 4), (b'o', 4), (b'n', 5), (b'l', 2), (b'f', 2), (b't', 2)],
+    &[(b'i', 20), (b'r', 16), (b'd', 12), (b'a', 14), (b'g', 8), (b'p', 8), (b'c', 4), (b'o', 4), (b'n', 5), (b'l', 3), (b'f', 3), (b't', 3)],
 ];
 
 const SWEEP: Moods = [
     &[(b'i', 60), (b'z', 2), (b'y', 2), (b'j', 10), (b'v', 1), (b'm', 1), (b'x', 1)],
-    &[(b'i', 20), (b'z', 8), (b'y', 8), (b'j', 10), (b'v', 5), (b'm', 5), (b'x', 5), (b'e', 6)],
-    &[(b'i', 30), (b'z', 5), (b'y', 5), (b'j', 12), (b'v', 4), (b'm', 4), (b'x', 4), (b'e', 3)],
+    &[(b'i', 20), (b'z', 8), (b'y', 8), (b'j', 10), (b'v', 8), (b'm', 5), (b'x', 5), (b'e', 6)],
+    &[(b'i', 30), (b'z', 5), (b'y', 5), (b'j', 12), (b'v', 6), (b'm', 4), (b'x', 4), (b'e', 3)],
 ];
 
 /// Calls on a table of C, by the crate's own answers. Whole states are asked every 40 calls, and after each sweep, drain step and rebuild.
@@ -203,7 +209,7 @@ fn dense_part(dice: &mut Dice, list: &mut List, t: &mut Dense, moods: &Moods, c:
             _ => (op as char).to_string(),
         };
         if op == b'j' {
-            for _ in 0..dice.pick(&[0, 1, 2, 2, 3, 3, 4, 8]) {
+            for _ in 0..dice.pick(&[0, 1, 1, 2, 2, 3, 4, 8]) {
                 let k = known.key(dice, t, false);
                 say(list, t, &format!("k{}", named(k)));
             }
@@ -250,11 +256,11 @@ pub fn dense() -> String {
         dense_part(&mut dice, &mut list, &mut t, &DENSE, 1, 20, NEVER);
         dense_part(&mut dice, &mut list, &mut t, &DENSE, 2, 20, NEVER);
     }
-    for _ in 0..10 {
+    for _ in 0..9 {
         dense_part(&mut dice, &mut list, &mut t, &DENSE, 20, 5_000, NEVER);
     }
-    dense_part(&mut dice, &mut list, &mut t, &DENSE, 1_000, 20_000, NEVER);
-    dense_part(&mut dice, &mut list, &mut t, &DENSE, 4_096, 20_000, NEVER);
+    dense_part(&mut dice, &mut list, &mut t, &DENSE, 1_000, 11_000, NEVER);
+    dense_part(&mut dice, &mut list, &mut t, &DENSE, 4_096, 11_000, NEVER);
     sequences(&mut list, "C0", &["i7", "r1 1", "a1 1 8"]);
     sequences(&mut list, "C1", &["i7", "r1 1", "d1 1", "a1 1 8"]);
     sequences(&mut list, "C2", &["i7", "r1 1", "r2 1", "d1 1", "a1 1 8"]);
@@ -270,11 +276,11 @@ pub fn sweep() -> String {
         dense_part(&mut dice, &mut list, &mut t, &SWEEP, 1, 100, 20);
         dense_part(&mut dice, &mut list, &mut t, &SWEEP, 2, 150, 25);
     }
-    for _ in 0..6 {
+    for _ in 0..4 {
         dense_part(&mut dice, &mut list, &mut t, &SWEEP, 20, 5_000, 100);
     }
-    dense_part(&mut dice, &mut list, &mut t, &SWEEP, 1_000, 10_000, 3_000);
-    dense_part(&mut dice, &mut list, &mut t, &SWEEP, 4_096, 14_000, NEVER);
+    dense_part(&mut dice, &mut list, &mut t, &SWEEP, 1_000, 6_000, 3_000);
+    dense_part(&mut dice, &mut list, &mut t, &SWEEP, 4_096, 8_000, NEVER);
     sequences(&mut list, "C0", &["i7", "z", "e"]);
     sequences(&mut list, "C1", &["i7", "z", "x0 0", "e"]);
     sequences(&mut list, "C2", &["i7", "i8", "z", "x2 2", "m1 0"]);
@@ -285,8 +291,8 @@ pub fn sweep() -> String {
 
 const SECONDARY: Moods = [
     &[(b'i', 60), (b'p', 6), (b'r', 6), (b'g', 6), (b'c', 4), (b'o', 5), (b'z', 1), (b'y', 3), (b'j', 5), (b'l', 3), (b'f', 3)],
-    &[(b'i', 24), (b'p', 6), (b'r', 20), (b'g', 6), (b'c', 4), (b'o', 6), (b'z', 8), (b'y', 4), (b'j', 8), (b'v', 6), (b'm', 6), (b'x', 6), (b'e', 14), (b'l', 4), (b'f', 4)],
-    &[(b'i', 34), (b'p', 8), (b'r', 10), (b'g', 8), (b'c', 5), (b'o', 8), (b'z', 4), (b'y', 5), (b'j', 12), (b'v', 6), (b'm', 6), (b'x', 6), (b'e', 3), (b'l', 4), (b'f', 4)],
+    &[(b'i', 24), (b'p', 6), (b'r', 20), (b'g', 6), (b'c', 4), (b'o', 6), (b'z', 8), (b'y', 4), (b'j', 12), (b'v', 6), (b'm', 6), (b'x', 6), (b'e', 14), (b'l', 4), (b'f', 4)],
+    &[(b'i', 34), (b'p', 8), (b'r', 10), (b'g', 10), (b'c', 5), (b'o', 10), (b'z', 4), (b'y', 5), (b'j', 18), (b'v', 6), (b'm', 6), (b'x', 6), (b'e', 4), (b'l', 5), (b'f', 5)],
 ];
 
 /// A version for an insert: odd, below 2^31, where the port orders versions as the crate does.
@@ -347,7 +353,7 @@ fn secondary_part(dice: &mut Dice, list: &mut List, t: &mut Secondary, l: usize,
             _ => (op as char).to_string(),
         };
         if op == b'j' {
-            for _ in 0..dice.pick(&[0, 1, 2, 2, 3, 3, 4, 8]) {
+            for _ in 0..dice.pick(&[0, 1, 1, 2, 2, 3, 4, 8]) {
                 let k = some_key(dice, t);
                 say(list, t, &format!("k{}", named(k)));
             }
@@ -369,13 +375,117 @@ pub fn secondary() -> String {
         secondary_part(&mut dice, &mut list, &mut t, 2, 20);
         secondary_part(&mut dice, &mut list, &mut t, 3, 20);
     }
-    for _ in 0..80 {
+    for _ in 0..92 {
         secondary_part(&mut dice, &mut list, &mut t, 21, 500);
     }
-    secondary_part(&mut dice, &mut list, &mut t, 1_001, 8_000);
-    secondary_part(&mut dice, &mut list, &mut t, 4_097, 10_000);
+    secondary_part(&mut dice, &mut list, &mut t, 1_001, 4_000);
+    secondary_part(&mut dice, &mut list, &mut t, 4_097, 6_000);
     sequences(&mut list, "L1", &["i1 1 7", "r1 1", "z0"]);
     sequences(&mut list, "L2", &["i1 1 7", "i1 3 8", "r1 1", "z0"]);
     sequences(&mut list, "L3", &["i1 1 7", "i2 1 8", "i1 3 9", "r1 1"]);
+    list.text
+}
+
+// ---- the slot image
+
+/// An image with a fault: cut off, a number lengthened or changed, bytes added, an odd first slot, a presence or a count that is wrong.
+fn damaged(dice: &mut Dice, c: u64) -> Vec<u8> {
+    let mut b = some_image(dice, c, 3);
+    let at = dice.roll(b.len() as u64) as usize;
+    match dice.roll(10) {
+        0 => b.truncate(at),
+        1 => b[at] ^= 1 << dice.roll(8),
+        2 => b.insert(at, 0x80),
+        3 => {
+            b[at] |= 0x80;
+            b.insert(at + 1, 0);
+        }
+        4 => b.push(dice.roll(256) as u8),
+        5 => b[1] = 1,
+        6 => b[2] = dice.pick(&[2, 127]),
+        7 => {
+            // too many slots, or none
+            let mut count = vec![];
+            image::push_number(&mut count, dice.pick(&[0, c + 2, c + 3, 200, 0xffff_ffff, 0x1_0000_0000]));
+            b.splice(0..1, count);
+        }
+        8 => b = image_but(dice, c, 3, 1),
+        _ => {
+            let long = dice.pick(&[4, 5, 9, 10]);
+            b.splice(at..at, vec![0xff; long]);
+        }
+    }
+    b
+}
+
+/// An image whose first record is not 0, 0: its version and value are thrown away.
+fn odd_start(dice: &mut Dice, c: u64) -> Vec<u8> {
+    let mut b = some_image(dice, c, 3);
+    let mut first = vec![];
+    image::push_number(&mut first, some_version(dice) & 0xffff_fffe);
+    first.push(1);
+    image::push_number(&mut first, some_value(dice));
+    let at = if b[0] < 128 { 1 } else { 2 };
+    b.splice(at..at + 2, first);
+    b
+}
+
+fn image_part(dice: &mut Dice, list: &mut List, t: &mut Dense, c: usize, calls: usize) {
+    let say = |list: &mut List, t: &mut Dense, line: &str| -> Answer {
+        list.add(line);
+        t.call(&Line::parse(line))
+    };
+    let large = c > 20;
+    let mut known = Known { old: vec![1 << 32 | 1], away: vec![] };
+    say(list, t, &format!("C{c}"));
+    for _ in 0..calls {
+        let mut op = dice.kind(&[(b'i', 20), (b'r', 12), (b'd', 8), (b'R', 8), (b'?', 10), (b'J', 9), (b'!', 5), (b'W', 8), (b'D', 9), (b'N', 7)]);
+        // images of large tables come seldom
+        if large && !matches!(op, b'i' | b'r' | b'd') && dice.roll(200) > 0 {
+            op = b'i';
+        }
+        let k = known.key(dice, t, false);
+        let line = match op {
+            b'i' => format!("i{}", some_value(dice)),
+            b'r' | b'd' => format!("{}{}", op as char, named(k)),
+            b'R' if dice.roll(5) == 0 => format!("R{}", hex(&odd_start(dice, c as u64))),
+            b'R' => format!("R{}", hex(&some_image(dice, c as u64, 3))),
+            b'?' => format!("R{}", hex(&damaged(dice, c as u64))),
+            b'J' => format!("J{}", hex(&some_image(dice, c as u64, 3))),
+            b'!' => format!("J{}", hex(&damaged(dice, c as u64))),
+            b'W' | b'D' => {
+                let room = image::bytes(&t.m).len() as u64 + dice.roll(5) - dice.roll(2);
+                format!("{}{room}", if large { 'D' } else { op as char })
+            }
+            _ => "N".into(),
+        };
+        if let (b'i', Answer::Key(k)) = (op, say(list, t, &line)) {
+            known.old.push(k);
+            if known.old.len() > c + 4 {
+                known.old.remove(0);
+            }
+        }
+        if line.starts_with('R') || list.since >= 40 {
+            say(list, t, "s");
+            list.since = 0;
+        }
+    }
+    say(list, t, "s");
+}
+
+pub fn images() -> String {
+    let mut dice = Dice::new(4);
+    let mut list = List::new();
+    let mut t = Dense::new(0);
+    for _ in 0..700 {
+        image_part(&mut dice, &mut list, &mut t, 0, 4);
+        image_part(&mut dice, &mut list, &mut t, 1, 12);
+        image_part(&mut dice, &mut list, &mut t, 2, 18);
+    }
+    for _ in 0..25 {
+        image_part(&mut dice, &mut list, &mut t, 20, 200);
+    }
+    image_part(&mut dice, &mut list, &mut t, 1_000, 2_500);
+    image_part(&mut dice, &mut list, &mut t, 4_096, 2_500);
     list.text
 }

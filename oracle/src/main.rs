@@ -60,7 +60,8 @@ fn main() {
         ["calls", "dense"] => print!("{}", generate::dense()),
         ["calls", "sweep"] => print!("{}", generate::sweep()),
         ["calls", "secondary"] => print!("{}", generate::secondary()),
-        ["answers", "dense"] => answers_dense(0),
+        ["calls", "image"] => print!("{}", generate::images()),
+        ["answers", "dense"] | ["answers", "image"] => answers_dense(0),
         ["answers", "sweep"] => answers_dense(dense::OUTPUT),
         ["answers", "secondary"] => {
             let mut t = secondary::Secondary::new();
