@@ -1,0 +1,22 @@
+-- `Line::take` goes by the definition's cases. Assumes nothing.
+use borrow.Author.Needs.{needs}
+use borrow.Author.Tests.{eq-eqb, ne-eqb}
+use native.Mathlib.Omega.{arith}
+use Rattle.replay.specs.Lines.{taken}
+use Rattle.replay.proofs.Line.take.Statement.{statement}
+use Rattle.replay.proofs.Line.take.Tie as tie
+
+returns : tie.Need-returns
+unfolding taken
+returns c = rw (eq-eqb _ 0 (c .if1 .taken))
+
+returns-2 : tie.Need-returns-2
+unfolding taken
+returns-2 c = rw (ne-eqb _ 0 (c .before .if1 .left), eq-eqb _ 32 (c .if2 .taken))
+
+returns-3 : tie.Need-returns-3
+unfolding taken
+returns-3 c = rw (c .with-digit .ensures, c .before .wide .ensures, ne-eqb _ 0 (c .before .before .before .if1 .left), ne-eqb _ 32 (c .before .before .if2 .left))
+
+pub take-spec : {M : Type 1} → statement M
+take-spec = tie.close (tie.spec returns returns-2 (λ c κs. search needs) (λ c κs. search needs) returns-3)

@@ -1,0 +1,17 @@
+-- `main` keeps the lengths of the arrays, and ends after so many turns. Assumes nothing.
+use mathlib.Core.Path.{_≡_}
+use lib.ListN.{length}
+use borrow.Author.Needs.{needs}
+use native.Mathlib.Omega.{arith}
+use Rattle.replay_image.proofs.main.Statement.{statement}
+use Rattle.replay_image.proofs.main.Tie as tie
+
+abbrev Inv-loop : tie.InvT-loop
+Inv-loop versions₀ links₀ keys₀ values₀ out₀ buf₀ bytes₀ h₀ c₀ r₀ turns₀ t16 versions links keys values out buf bytes h c r turns =
+    (length versions ≡ 4097) × (length links ≡ 4097) × (length keys ≡ 4096) × (length values ≡ 4096) × (length out ≡ 65600)
+
+abbrev μ-loop : tie.MeasureT-loop
+μ-loop versions₀ links₀ keys₀ values₀ out₀ buf₀ bytes₀ h₀ c₀ r₀ turns₀ t16 versions links keys values out buf bytes h c r turns = turns
+
+pub main-spec : {M : Type 1} → statement M
+main-spec = tie.close (tie.spec Inv-loop μ-loop (λ c κs. search needs) (λ c κs. search needs) (λ c. search needs) (λ c. search needs) (λ c κs. search needs) (λ c κs. search needs) (λ c. search needs) (λ c. search needs) (λ c. search needs) (λ c. search needs) (λ c. search needs) (λ c κs. search needs) (λ c. search needs) (λ c κs. search needs) (λ c. omega (arith, c .before .before .before .before .before .before .before .before .before .before .before .before .before .before .before .before .before .before .before .before .before .before .before .loop-test .taken)) (λ c. search needs) (λ c. search needs) (λ c. search needs))

@@ -1,0 +1,44 @@
+// Replays the crate's list of slot images, written and rebuilt: a line of input is a call, a line of output its answer.
+mod calls;
+mod input;
+
+use table::Header;
+
+fn main() {
+    let mut versions = [0x5a5a_5a5au32; 4097];
+    let mut links = [0x5a5a_5a5au32; 4097];
+    let mut keys = [0x5a5a_5a5a_5a5a_5a5au64; 4096];
+    let mut values = [0x5a5a_5a5a_5a5a_5a5au64; 4096];
+    let mut out = [0x5au8; 65600];
+    let mut buf = io::large_buffer();
+    let mut bytes = [0u8; 65600];
+    let mut h = Header { n: 0, s: 0, f: 0 };
+    let mut c = 0;
+    let mut r = input::start();
+    let mut turns = u64::MAX;
+    while turns > 0 {
+        turns -= 1;
+        r = input::next_line(r, &mut buf, &mut bytes);
+        if !r.more {
+            break;
+        }
+        let line = r.line;
+        c = calls::size(line, c);
+        let made = calls::call_on(
+            h,
+            &mut versions,
+            &mut links,
+            &mut keys,
+            &mut values,
+            &bytes,
+            r.digits,
+            &mut out,
+            c,
+            line,
+        );
+        let answer = made.answer;
+        let g = made.header;
+        h = g;
+        replay::print(answer, &[]);
+    }
+}
