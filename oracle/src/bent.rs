@@ -17,8 +17,8 @@ const BEND: u64 = 28;
 const START: u64 = 29;
 const AGE: u64 = 30;
 
-const LETTERS: &[u8; 28] = b"gcpkiirrrddaaattyqzjjlsmwxbb";
-const MAP_LETTERS: &[u8; 20] = b"GCPIIIIIRRTTYYKZJJSL";
+const LETTERS: &[u8; 28] = b"iirrrddaaattyqzbbpjjgcklsmwx";
+const MAP_LETTERS: &[u8; 20] = b"IIIIIRRTTYYZPJJGCKSL";
 
 // ---- numbers
 
@@ -196,22 +196,15 @@ fn builds(w: u64, c: usize) -> u64 {
 /// The calls that build a table up, and now and then an aged slot.
 fn build_kind(d: u64, c: usize) -> u64 {
     if c > 100 && d % 64 > 0 {
-        return 4;
+        return 0;
     }
-    let k = (d >> 8) % 18;
-    if k < 9 {
-        return 4;
+    match (d >> 8) % 18 {
+        0..=8 => 0,
+        9..=11 => 2,
+        12 | 13 => 5,
+        14 | 15 => 7,
+        _ => AGE,
     }
-    if k < 12 {
-        return 6;
-    }
-    if k < 14 {
-        return 9;
-    }
-    if k < 16 {
-        return 11;
-    }
-    AGE
 }
 
 fn kind(w: u64, c: usize, turn: u64, e: u64) -> u64 {
@@ -287,7 +280,7 @@ fn first_detached(links: &[u32]) -> u64 {
 /// A key to ask for; for the first of reattach's three kinds a detached one, where there is any.
 fn pick(t: &Dense, kind: u64, e: u64) -> u64 {
     let d = word(e, 1);
-    let k = if kind == 11 { 9 } else { d % 11 };
+    let k = if kind == 7 { 9 } else { d % 11 };
     if k < 6 {
         return twist(at64(&t.keys, below(d >> 8, t.n as u64)), d >> 40);
     }
@@ -515,31 +508,28 @@ fn step(t: &mut Dense, kind: u64, e: u64) -> Said {
     let d = word(e, 71);
     let x = value(d);
     match kind {
-        0 => said(t.lookup(key), |x| x),
-        1 => said(t.contains(key), |b| b as u64),
-        2 => said(t.put(key, x), |x| x),
-        3 => said(t.next_key(), |k| k),
-        4 | 5 => said(t.insert(x), |k| k),
-        6..=8 => said(t.remove(key), |x| x),
-        9 | 10 => said(t.detach(key), |x| x),
-        11..=13 => said(t.reattach(key, x), |_| 0),
-        14 | 15 => said(t.retain(rule(d)), |_| 0),
+        0 | 1 => said(t.insert(x), |k| k),
+        2..=4 => said(t.remove(key), |x| x),
+        5 | 6 => said(t.detach(key), |x| x),
+        7..=9 => said(t.reattach(key, x), |_| 0),
+        10 | 11 => said(t.retain(rule(d)), |_| 0),
         // by value, and with the header lent
-        16 | 17 => drained(t.drain_step()),
-        18 => said(t.clear(), |_| 0),
-        19 | 20 => call_disjoint(t, key, e),
-        21 => said(t.len(), |n| n as u64),
-        22 => (0, t.is_sound() as u64),
-        23 => said(t.image_len(), |n| n as u64),
-        24 => call_write_image(t, e),
-        25 => (
-            0,
-            mix64(
-                mix64(mix(0, t.key_list().len() as u64), t.key_list()),
-                t.value_list(),
-            ),
-        ),
-        26 | 27 => call_rebuild(t, e),
+        12 | 13 => drained(t.drain_step()),
+        14 => said(t.clear(), |_| 0),
+        15 | 16 => call_rebuild(t, e),
+        17 => said(t.put(key, x), |x| x),
+        18 | 19 => call_disjoint(t, key, e),
+        20 => said(t.lookup(key), |x| x),
+        21 => said(t.contains(key), |b| b as u64),
+        22 => said(t.next_key(), |k| k),
+        23 => said(t.len(), |n| n as u64),
+        24 => (0, t.is_sound() as u64),
+        25 => said(t.image_len(), |n| n as u64),
+        26 => call_write_image(t, e),
+        27 => {
+            let listed = mix(0, t.key_list().len() as u64);
+            (0, mix64(mix64(listed, t.key_list()), t.value_list()))
+        }
         START => {
             start(t, e);
             (0, 0)
@@ -652,7 +642,7 @@ fn map_kind(w: u64, turn: u64, e: u64) -> u64 {
         return BEND;
     }
     if turn < bent + w % 20 {
-        return if word(e, 73) % 12 == 0 { 8 } else { 3 };
+        return if word(e, 73) % 12 == 0 { 5 } else { 0 };
     }
     START
 }
@@ -734,16 +724,16 @@ fn map_step(m: &mut Secondary, kind: u64, e: u64) -> Said {
         ((d >> 8) % 8) as u32
     };
     match kind {
-        0 => said(m.lookup(key), |x| x),
-        1 => said(m.contains(key), |b| b as u64),
-        2 => said(m.put(key, x), |x| x),
-        3..=7 => entered(m.insert(key, x)),
-        8 | 9 => said(m.remove(key), |x| x),
-        10 | 11 => said(m.retain(rule(d)), |_| 0),
-        12 | 13 => stepped(m.drain_step(place)),
-        14 => stepped(m.look_step(place)),
-        15 => said(m.clear(), |_| 0),
-        16 | 17 => map_disjoint(m, key, e),
+        0..=4 => entered(m.insert(key, x)),
+        5 | 6 => said(m.remove(key), |x| x),
+        7 | 8 => said(m.retain(rule(d)), |_| 0),
+        9 | 10 => stepped(m.drain_step(place)),
+        11 => said(m.clear(), |_| 0),
+        12 => said(m.put(key, x), |x| x),
+        13 | 14 => map_disjoint(m, key, e),
+        15 => said(m.lookup(key), |x| x),
+        16 => said(m.contains(key), |b| b as u64),
+        17 => stepped(m.look_step(place)),
         18 => (0, m.is_whole() as u64),
         19 => said(m.len(), |n| n as u64),
         START => {

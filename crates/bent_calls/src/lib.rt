@@ -108,25 +108,25 @@ fn call_look(
     k: u64,
     e: u64,
 ) -> Said {
-    if kind == 0 {
+    if kind == 20 {
         return found(dense::lookup(h, versions, links, keys, values, k));
     }
-    if kind == 1 {
+    if kind == 21 {
         return tested(dense::contains_key(h, versions, links, keys, values, k));
     }
-    if kind == 3 {
+    if kind == 22 {
         return issued(dense::next_key(h, versions, links, keys, values));
     }
-    if kind == 21 {
+    if kind == 23 {
         return counted(dense::len(h, versions, links, keys, values));
     }
-    if kind == 22 {
+    if kind == 24 {
         return truth(dense_sound::is_sound(h, versions, links, keys, values));
     }
-    if kind == 23 {
+    if kind == 25 {
         return length(image_write::image_len(h, versions, links, keys, values));
     }
-    if kind == 24 {
+    if kind == 26 {
         return call_write_image(h, versions, links, keys, values, e);
     }
     call_lists(h, versions, links, keys, values)
@@ -142,10 +142,10 @@ pub fn call_ask(
     k: u64,
     e: u64,
 ) -> Said {
-    if kind == 2 {
+    if kind < 18 {
         return found(dense_enter::put(h, versions, links, keys, values, k, value(word(e, 71))));
     }
-    if kind == 19 || kind == 20 {
+    if kind < 20 {
         return call_disjoint(h, versions, links, keys, values, k, e);
     }
     call_look(h, versions, links, keys, values, kind, k, e)
@@ -161,13 +161,13 @@ pub fn call_edit(
     k: u64,
     x: u64,
 ) -> After {
-    if kind < 6 {
+    if kind < 2 {
         return inserted(dense_enter::insert(h, versions, links, keys, values, x));
     }
-    if kind < 9 {
+    if kind < 5 {
         return removed(dense_leave::remove(h, versions, links, keys, values, k));
     }
-    if kind < 11 {
+    if kind < 7 {
         return removed(dense_leave::detach(h, versions, links, keys, values, k));
     }
     changed(dense_enter::reattach(h, versions, links, keys, values, k, x))
@@ -181,10 +181,10 @@ fn call_drain(
     values: &[u64],
     kind: u64,
 ) -> After {
-    if kind == 16 {
+    if kind == 12 {
         return stepped(dense_leave::drain_step(h, versions, links, keys, values));
     }
-    if kind == 17 {
+    if kind == 13 {
         return stepped(dense_lent::drain_step_by(h, versions, links, keys, values));
     }
     changed(dense_sweep::clear(h, versions, links, keys, values))
@@ -199,10 +199,10 @@ pub fn call_sweep(
     kind: u64,
     e: u64,
 ) -> After {
-    if kind < 16 {
+    if kind < 12 {
         return changed(dense_sweep::retain(h, versions, links, keys, values, rule(word(e, 71))));
     }
-    if kind < 19 {
+    if kind < 15 {
         return call_drain(h, versions, links, keys, values, kind);
     }
     call_rebuild(h, versions, links, keys, values, e)

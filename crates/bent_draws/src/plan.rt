@@ -41,13 +41,13 @@ pub fn builds(w: u64, c: usize) -> u64 {
 // The calls that build a table up, and now and then an aged slot.
 fn build_kind(d: u64, c: usize) -> u64 {
     if c > 100 && d % 64 > 0 {
-        return 4;
+        return 0;
     }
     match (d >> 8) % 18 {
-        0..=8 => 4,
-        9..=11 => 6,
-        12 | 13 => 9,
-        14 | 15 => 11,
+        0..=8 => 0,
+        9..=11 => 2,
+        12 | 13 => 5,
+        14 | 15 => 7,
         _ => AGE,
     }
 }
@@ -75,7 +75,7 @@ pub fn map_kind(w: u64, turn: u64, e: u64) -> u64 {
         return BEND;
     }
     if turn - b < w % 20 {
-        return if word(e, 73) % 12 == 0 { 8 } else { 3 };
+        return if word(e, 73) % 12 == 0 { 5 } else { 0 };
     }
     START
 }

@@ -43,7 +43,7 @@ use secondary_edit::Removal;
 use secondary_sweep::Sweep;
 use secondary_sweep::Swept;
 
-const LETTERS: [u8; 20] = *b"GCPIIIIIRRTTYYKZJJSL";
+const LETTERS: [u8; 20] = *b"IIIIIRRTTYYZPJJGCKSL";
 
 struct After {
     header: MapHeader,
@@ -277,13 +277,13 @@ fn call_disjoint(h: MapHeader, versions: &mut [u32], values: &[u64], k: u64, e: 
 // ---- one call
 
 fn call_look(h: MapHeader, versions: &[u32], values: &[u64], kind: u64, k: u64, d: u64) -> Said {
-    if kind == 0 {
+    if kind == 15 {
         return got(secondary::lookup(h, versions, values, k));
     }
-    if kind == 1 {
+    if kind == 16 {
         return tested(secondary::contains_key(h, versions, values, k));
     }
-    if kind == 14 {
+    if kind == 17 {
         return stepped(secondary::peek(h, versions, values, place(d)));
     }
     if kind == 18 {
@@ -301,10 +301,10 @@ fn call_ask(
     d: u64,
     e: u64,
 ) -> Said {
-    if kind == 2 {
+    if kind < 13 {
         return got(secondary_edit::put(h, versions, values, k, value(d)));
     }
-    if kind == 16 || kind == 17 {
+    if kind < 15 {
         return call_disjoint(h, versions, values, k, e);
     }
     call_look(h, versions, values, kind, k, d)
@@ -318,16 +318,16 @@ fn call_edit(
     k: u64,
     d: u64,
 ) -> After {
-    if kind < 8 {
+    if kind < 5 {
         return inserted(secondary_edit::insert(h, versions, values, k, value(d)));
     }
-    if kind < 10 {
+    if kind < 7 {
         return removed(secondary_edit::remove(h, versions, values, k));
     }
-    if kind < 12 {
+    if kind < 9 {
         return sweep(secondary_sweep::retain(h, versions, values, rule(d)));
     }
-    if kind < 14 {
+    if kind < 11 {
         return drained(secondary_edit::drain_step(h, versions, values, place(d)));
     }
     sweep(secondary_sweep::clear(h, versions, values))
@@ -342,7 +342,7 @@ fn call(
     e: u64,
 ) -> After {
     let d = word(e, 71);
-    if (kind >= 3 && kind < 14) || kind == 15 {
+    if kind < 12 {
         return call_edit(h, versions, values, kind, k, d);
     }
     After {
@@ -353,8 +353,11 @@ fn call(
 
 // ---- one turn
 
-fn tell(h: MapHeader, versions: &[u32], values: &[u64], kind: u64, said: Said) {
+fn tell(h: MapHeader, versions: &[u32], values: &[u64], kind: u64, shown: bool, said: Said) {
     let i = kind as usize;
+    if !shown {
+        return;
+    }
     if i >= 20 {
         return;
     }
@@ -382,9 +385,7 @@ fn step(
     let after = call(h, versions, values, kind, pick(h, versions, e), e);
     let header = after.header;
     let said = after.said;
-    if shown {
-        tell(header, versions, values, kind, said);
-    }
+    tell(header, versions, values, kind, shown, said);
     header
 }
 

@@ -220,7 +220,7 @@ fn first_detached(links: &[u32]) -> u64 {
 }
 
 fn pick_kind(kind: u64, d: u64) -> u64 {
-    if kind == 11 { 9 } else { d % 11 }
+    if kind == 7 { 9 } else { d % 11 }
 }
 
 // A key to ask for; for the first of reattach's three kinds a detached one, where there is any.

@@ -23,7 +23,7 @@ use bent_tables::pick;
 use bent_tables::start;
 use table::Header;
 
-const LETTERS: [u8; 28] = *b"gcpkiirrrddaaattyqzjjlsmwxbb";
+const LETTERS: [u8; 28] = *b"iirrrddaaattyqzbbpjjgcklsmwx";
 
 fn call(
     h: Header,
@@ -35,7 +35,7 @@ fn call(
     k: u64,
     e: u64,
 ) -> After {
-    if kind >= 4 && kind < 14 {
+    if kind < 10 {
         return call_edit(
             h,
             versions,
@@ -47,7 +47,7 @@ fn call(
             value(word(e, 71)),
         );
     }
-    if (kind >= 14 && kind < 19) || kind >= 26 {
+    if kind < 17 {
         return call_sweep(h, versions, links, keys, values, kind, e);
     }
     After {
@@ -65,9 +65,13 @@ fn tell(
     keys: &[u64],
     values: &[u64],
     kind: u64,
+    shown: bool,
     said: Said,
 ) {
     let i = kind as usize;
+    if !shown {
+        return;
+    }
     if i >= 28 {
         return;
     }
@@ -102,9 +106,7 @@ fn step(
     let after = call(h, versions, links, keys, values, kind, k, e);
     let header = after.header;
     let said = after.said;
-    if shown {
-        tell(header, versions, links, keys, values, kind, said);
-    }
+    tell(header, versions, links, keys, values, kind, shown, said);
     header
 }
 
