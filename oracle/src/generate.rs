@@ -228,22 +228,30 @@ fn dense_part(dice: &mut Dice, list: &mut List, t: &mut Dense, moods: &Moods, c:
             (b'a', Answer::Done) => known.away.retain(|x| *x != read),
             _ => {}
         }
-        if matches!(op, b'z' | b'y' | b'v' | b'm' | b'x' | b'e') {
+        if op == b'y' || is_watched(op) {
             say(list, t, "s");
         }
     }
     say(list, t, "s");
 }
 
-/// Every sequence of five calls of an alphabet, each on a fresh table, with the whole state after it.
+/// Whether the whole state is asked after every call of this letter: it sweeps, or takes a drain step.
+fn is_watched(op: u8) -> bool {
+    matches!(op, b'z' | b'v' | b'm' | b'x' | b'e')
+}
+
+/// Every sequence of five calls of an alphabet, each on a fresh table, with the whole state at its end.
 fn sequences(list: &mut List, begin: &str, alphabet: &[&str]) {
     let n = alphabet.len();
     for t in 0..n.pow(5) {
         list.add(begin);
         for place in (0..5).rev() {
-            list.add(alphabet[t / n.pow(place) % n]);
+            let call = alphabet[t / n.pow(place) % n];
+            list.add(call);
+            if place == 0 || is_watched(call.as_bytes()[0]) {
+                list.add("s");
+            }
         }
-        list.add("s");
     }
 }
 
@@ -283,7 +291,7 @@ pub fn sweep() -> String {
     dense_part(&mut dice, &mut list, &mut t, &SWEEP, 4_096, 8_000, NEVER);
     sequences(&mut list, "C0", &["i7", "z", "e"]);
     sequences(&mut list, "C1", &["i7", "z", "x0 0", "e"]);
-    sequences(&mut list, "C2", &["i7", "i8", "z", "x2 2", "m1 0"]);
+    sequences(&mut list, "C2", &["i7", "z", "x2 2", "m1 0"]);
     list.text
 }
 
@@ -359,7 +367,7 @@ fn secondary_part(dice: &mut Dice, list: &mut List, t: &mut Secondary, l: usize,
             }
         }
         say(list, t, &line);
-        if matches!(op, b'z' | b'v' | b'm' | b'x' | b'e') {
+        if is_watched(op) {
             say(list, t, "s");
         }
     }
