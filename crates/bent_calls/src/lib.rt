@@ -7,13 +7,11 @@ use bent_draws::count;
 use bent_draws::mix;
 use bent_draws::mix32;
 use bent_draws::mix64;
-use bent_draws::rule;
 use bent_draws::set64;
 use bent_draws::truth;
 use bent_draws::value;
 use bent_draws::wide;
 use bent_draws::word;
-use bent_images::call_rebuild;
 use bent_images::call_write_image;
 use bent_tables::After;
 use bent_tables::changed;
@@ -23,7 +21,6 @@ use bent_tables::inserted;
 use bent_tables::issued;
 use bent_tables::length;
 use bent_tables::removed;
-use bent_tables::stepped;
 use bent_tables::tested;
 use bent_tables::verdict;
 use table::Header;
@@ -171,39 +168,4 @@ pub fn call_edit(
         return removed(dense_leave::detach(h, versions, links, keys, values, k));
     }
     changed(dense_enter::reattach(h, versions, links, keys, values, k, x))
-}
-
-fn call_drain(
-    h: Header,
-    versions: &mut [u32],
-    links: &mut [u32],
-    keys: &[u64],
-    values: &[u64],
-    kind: u64,
-) -> After {
-    if kind == 12 {
-        return stepped(dense_leave::drain_step(h, versions, links, keys, values));
-    }
-    if kind == 13 {
-        return stepped(dense_lent::drain_step_by(h, versions, links, keys, values));
-    }
-    changed(dense_sweep::clear(h, versions, links, keys, values))
-}
-
-pub fn call_sweep(
-    h: Header,
-    versions: &mut [u32],
-    links: &mut [u32],
-    keys: &mut [u64],
-    values: &mut [u64],
-    kind: u64,
-    e: u64,
-) -> After {
-    if kind < 12 {
-        return changed(dense_sweep::retain(h, versions, links, keys, values, rule(word(e, 71))));
-    }
-    if kind < 15 {
-        return call_drain(h, versions, links, keys, values, kind);
-    }
-    call_rebuild(h, versions, links, keys, values, e)
 }

@@ -1,7 +1,5 @@
 // Random bent tables and calls through the real code. The input is a seed and a count of rounds; nothing else is read. The lines to write are those
 // of a second program, which makes the same tables and answers from a plain reading of the rules.
-mod tables;
-
 struct Asked {
     seed: u64,
     rounds: u64,
@@ -45,7 +43,7 @@ fn round(versions: &mut [u32], links: &mut [u32], keys: &mut [u64], values: &mut
         bent_maps::round(versions, values, g);
         return;
     }
-    tables::round(versions, links, keys, values, g);
+    bent_rounds::round(versions, links, keys, values, g);
 }
 
 fn run(

@@ -1,16 +1,16 @@
 use borrow.Author.Needs.{needs}
 use lib.ListN.{length}
 use mathlib.Core.Path.{_≡_}
-use Rattle.replay_bent.proofs.tables.round.Statement.{statement}
-use Rattle.replay_bent.proofs.tables.round.Tie as tie
-use Rattle.replay_bent.proofs.tables.round.Reads as reads
-use Rattle.replay_bent.proofs.tables.round.Lts as lts
+use Rattle.bent_rounds.proofs.round.Statement.{statement}
+use Rattle.bent_rounds.proofs.round.Tie as tie
+use Rattle.bent_rounds.proofs.round.Reads as reads
+use Rattle.bent_rounds.proofs.round.Lts as lts
 use Rattle.bent_draws.proofs.mix.Reads as mix-reads
 use Rattle.bent_draws.proofs.bent.Reads as bent-reads
 use Rattle.bent_draws.proofs.builds.Reads as builds-reads
 use Rattle.bent_draws.proofs.capacity.Reads as capacity-reads
 use Rattle.bent_draws.proofs.word.Reads as word-reads
-use Rattle.replay_bent.proofs.tables.turn.Reads as turn-reads
+use Rattle.bent_rounds.proofs.turn.Reads as turn-reads
 use Rattle.std.proofs.num.wrapping_add_u64.Reads as wrapping-add-u64-reads
 
 abbrev Inv-loop : tie.InvT-loop
@@ -21,75 +21,75 @@ abbrev μ-loop : tie.MeasureT-loop
 μ-loop versions₀ links₀ keys₀ values₀ g w h₀ turns₀ versions links keys values h turns =
     turns
 
--- src/tables.rt:152:9
+-- src/lib.rt:152:9
 word-requires : tie.Need-word-requires Inv-loop μ-loop
 word-requires c κs = search needs
 
--- src/tables.rt:155:9
+-- src/lib.rt:155:9
 bent-requires : tie.Need-bent-requires Inv-loop μ-loop
 bent-requires c κs = search needs
 
--- src/tables.rt:156:46
+-- src/lib.rt:156:46
 capacity-requires : tie.Need-capacity-requires Inv-loop μ-loop
 capacity-requires c κs = search needs
 
--- src/tables.rt:156:36
+-- src/lib.rt:156:36
 builds-requires : tie.Need-builds-requires Inv-loop μ-loop
 builds-requires c κs = search needs
 
--- src/tables.rt:156:9
+-- src/lib.rt:156:9
 wrapping-add-u64-requires : tie.Need-wrapping-add-u64-requires Inv-loop μ-loop
 wrapping-add-u64-requires c κs = search needs
 
--- src/tables.rt:154:9
+-- src/lib.rt:154:9
 wrapping-add-u64-requires-2 : tie.Need-wrapping-add-u64-requires-2 Inv-loop μ-loop
 wrapping-add-u64-requires-2 c κs = search needs
 
--- src/tables.rt:158:5
+-- src/lib.rt:158:5
 loop-holds : tie.Need-loop-holds Inv-loop μ-loop
 loop-holds c = search needs
 
--- src/tables.rt:159:9
+-- src/lib.rt:159:9
 sub-turns : tie.Need-sub-turns Inv-loop μ-loop
 sub-turns c = search needs
 
--- src/tables.rt:168:17
+-- src/lib.rt:168:17
 mix-requires : tie.Need-mix-requires Inv-loop μ-loop
 mix-requires c κs = search needs
 
--- src/tables.rt:168:13
+-- src/lib.rt:168:13
 mix-requires-2 : tie.Need-mix-requires-2 Inv-loop μ-loop
 mix-requires-2 c κs = search needs
 
--- src/tables.rt:160:9
+-- src/lib.rt:160:9
 turn-requires : tie.Need-turn-requires Inv-loop μ-loop
 turn-requires c κs = search needs
 
--- src/tables.rt:158:5
+-- src/lib.rt:158:5
 loop-less : tie.Need-loop-less Inv-loop μ-loop
 loop-less c = search needs
 
--- src/tables.rt:158:5
+-- src/lib.rt:158:5
 loop-again : tie.Need-loop-again Inv-loop μ-loop
 loop-again c = search needs
 
--- src/tables.rt:145:1
+-- src/lib.rt:145:1
 same-length : tie.Need-same-length Inv-loop μ-loop
 same-length c = search needs
 
--- src/tables.rt:145:1
+-- src/lib.rt:145:1
 same-length-2 : tie.Need-same-length-2 Inv-loop μ-loop
 same-length-2 c = search needs
 
--- src/tables.rt:145:1
+-- src/lib.rt:145:1
 same-length-3 : tie.Need-same-length-3 Inv-loop μ-loop
 same-length-3 c = search needs
 
--- src/tables.rt:145:1
+-- src/lib.rt:145:1
 same-length-4 : tie.Need-same-length-4 Inv-loop μ-loop
 same-length-4 c = search needs
 
--- src/tables.rt:145:1
+-- src/lib.rt:145:1
 returns : tie.Need-returns Inv-loop μ-loop
 returns c = search needs
 

@@ -1,7 +1,6 @@
 // Rounds of the dense table.
 use bent_calls::call_ask;
 use bent_calls::call_edit;
-use bent_calls::call_sweep;
 use bent_draws::START;
 use bent_draws::Said;
 use bent_draws::bent;
@@ -17,6 +16,7 @@ use bent_draws::mix64;
 use bent_draws::value;
 use bent_draws::wide;
 use bent_draws::word;
+use bent_sweeps::call_sweep;
 use bent_tables::After;
 use bent_tables::bend;
 use bent_tables::pick;
