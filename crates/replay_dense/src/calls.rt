@@ -1,94 +1,21 @@
 // The calls on a table, each answered for the list. The arrays are the parts that the table has.
-use dense::Counted;
-use dense::Found;
-use dense::Issued;
-use dense::Placed;
-use dense::Started;
-use dense::Tested;
-use dense::Verdict;
 use replay::Answer;
 use replay::DIGEST;
-use replay::DONE;
-use replay::KEY;
 use replay::Line;
-use replay::NUMBER;
+use replay_answers::Made;
+use replay_answers::counted;
+use replay_answers::done;
+use replay_answers::issued;
+use replay_answers::key_number;
+use replay_answers::nothing;
+use replay_answers::placed;
+use replay_answers::started;
+use replay_answers::state;
+use replay_answers::tested;
+use replay_answers::value;
+use replay_edits::insert;
+use replay_edits::leave;
 use table::Header;
-
-// What a call leaves: the header and the answer.
-pub struct Made {
-    pub header: Header,
-    pub answer: Answer,
-}
-
-fn narrow(x: u64) -> u32 {
-    (x % 4_294_967_296) as u32
-}
-
-fn wide(x: u32) -> u64 {
-    x as u64
-}
-
-fn truth(b: bool) -> u64 {
-    if b { 1 } else { 0 }
-}
-
-pub fn key_number(idx: u64, version: u64) -> u64 {
-    (version << 32) | wide(narrow(idx))
-}
-
-fn done(verdict: Verdict) -> Answer {
-    match verdict {
-        Verdict::Done => Answer::of(DONE, 0),
-        Verdict::Refused(why) => Answer::refused(why),
-    }
-}
-
-fn value(found: Found) -> Answer {
-    match found {
-        Found::Value(x) => Answer::of(NUMBER, x),
-        Found::Refused(why) => Answer::refused(why),
-    }
-}
-
-fn issued(key: Issued) -> Answer {
-    match key {
-        Issued::Key(k) => Answer::of(KEY, k),
-        Issued::Refused(why) => Answer::refused(why),
-    }
-}
-
-fn tested(test: Tested) -> Answer {
-    match test {
-        Tested::Truth(b) => Answer::of(NUMBER, truth(b)),
-        Tested::Refused(why) => Answer::refused(why),
-    }
-}
-
-fn counted(count: Counted) -> Answer {
-    match count {
-        Counted::Count(n) => Answer::of(NUMBER, wide(n)),
-        Counted::Refused(why) => Answer::refused(why),
-    }
-}
-
-fn placed(place: Placed) -> Answer {
-    match place {
-        Placed::At(p) => Answer::of(NUMBER, p as u64),
-        Placed::Refused(why) => Answer::refused(why),
-    }
-}
-
-// ---- the calls that only look
-
-fn state(h: Header, versions: &[u32], links: &[u32], keys: &[u64], values: &[u64]) -> u64 {
-    let sound = truth(dense_sound::is_sound(h, versions, links, keys, values));
-    let header = replay::mix(
-        replay::mix(replay::mix(replay::mix(0, sound), wide(h.n)), wide(h.s)),
-        wide(h.f),
-    );
-    let slots = replay::mix_u32(replay::mix_u32(header, versions), links);
-    replay::mix_u64(replay::mix_u64(slots, keys), values)
-}
 
 fn lists(h: Header, versions: &[u32], links: &[u32], keys: &[u64], values: &[u64]) -> u64 {
     let k = replay::mix_u64(0, dense::keys_as_slice(h, versions, links, keys, values));
@@ -136,21 +63,6 @@ fn look(
     Answer::of(DIGEST, state(h, versions, links, keys, values))
 }
 
-// ---- the calls that store
-
-fn fresh(h: Header, versions: &mut [u32], links: &mut [u32], keys: &[u64], values: &[u64]) -> Made {
-    match dense::fresh(versions, links, keys, values) {
-        Started::With(g) => Made {
-            header: g,
-            answer: Answer::of(DONE, 0),
-        },
-        Started::Refused(why) => Made {
-            header: h,
-            answer: Answer::refused(why),
-        },
-    }
-}
-
 fn enter(
     h: Header,
     versions: &mut [u32],
@@ -162,13 +74,7 @@ fn enter(
     x: u64,
 ) -> Made {
     if op == b'i' {
-        let inserted = dense_enter::insert(h, versions, links, keys, values, x);
-        let g = inserted.header;
-        let key = inserted.answer;
-        return Made {
-            header: g,
-            answer: issued(key),
-        };
+        return insert(h, versions, links, keys, values, x);
     }
     if op == b'a' {
         let changed = dense_enter::reattach(h, versions, links, keys, values, k, x);
@@ -185,37 +91,6 @@ fn enter(
         answer: value(old),
     }
 }
-
-// ---- the calls that take out
-
-fn leave(
-    h: Header,
-    versions: &mut [u32],
-    links: &mut [u32],
-    keys: &mut [u64],
-    values: &mut [u64],
-    frees: bool,
-    k: u64,
-) -> Made {
-    if frees {
-        let removed = dense_leave::remove(h, versions, links, keys, values, k);
-        let g = removed.header;
-        let old = removed.answer;
-        return Made {
-            header: g,
-            answer: value(old),
-        };
-    }
-    let detached = dense_leave::detach(h, versions, links, keys, values, k);
-    let g = detached.header;
-    let old = detached.answer;
-    Made {
-        header: g,
-        answer: value(old),
-    }
-}
-
-// ---- all of them
 
 // Whether a letter names a call that only looks, at the whole table or at a key.
 fn looks(op: u8) -> bool {
@@ -253,7 +128,7 @@ fn call(
         return leave(h, versions, links, keys, values, op == b'r', k);
     }
     if op == b'C' {
-        return fresh(h, versions, links, keys, values);
+        return started(h, dense::fresh(versions, links, keys, values));
     }
     enter(
         h,
@@ -265,21 +140,6 @@ fn call(
         key_number(line.a, line.b),
         line.c,
     )
-}
-
-// The size of the table after a line.
-pub fn size(line: Line, c: usize) -> usize {
-    if line.op == b'C' {
-        return line.c as usize;
-    }
-    c
-}
-
-fn nothing(h: Header) -> Made {
-    Made {
-        header: h,
-        answer: Answer::of(DONE, 0),
-    }
 }
 
 // Lends a line the parts that a table of C has.

@@ -1,6 +1,5 @@
 // Replays the crate's list of calls on dense tables: a line of input is a call, a line of output its answer.
 mod calls;
-mod input;
 
 use table::Header;
 
@@ -10,18 +9,19 @@ fn main() {
     let mut keys = [0x5a5a_5a5a_5a5a_5a5au64; 4096];
     let mut values = [0x5a5a_5a5a_5a5a_5a5au64; 4096];
     let mut buf = io::large_buffer();
+    let mut bytes = [0u8; 65600];
     let mut h = Header { n: 0, s: 0, f: 0 };
     let mut c = 0;
-    let mut r = input::start();
+    let mut r = replay_input::start();
     let mut turns = u64::MAX;
     while turns > 0 {
         turns -= 1;
-        r = input::next_line(r, &mut buf);
+        r = replay_input::next_line(r, &mut buf, &mut bytes);
         if !r.more {
             break;
         }
         let line = r.line;
-        c = calls::size(line, c);
+        c = replay_answers::size(line, c);
         let made = calls::call_on(
             h,
             &mut versions,

@@ -1,7 +1,4 @@
 // The calls on a table and its image, each answered for the list. The arrays are the parts that the table has.
-use dense::Found;
-use dense::Issued;
-use dense::Started;
 use image_read::Counts;
 use image_write::Length;
 use libc::STDOUT_FILENO;
@@ -10,140 +7,18 @@ use replay::Answer;
 use replay::COUNTS;
 use replay::DIGEST;
 use replay::DONE;
-use replay::KEY;
 use replay::Line;
 use replay::NUMBER;
 use replay::WRITTEN;
+use replay_answers::Made;
+use replay_answers::key_number;
+use replay_answers::nothing;
+use replay_answers::state;
+use replay_answers::wide;
+use replay_edits::begin;
+use replay_edits::insert;
+use replay_edits::leave;
 use table::Header;
-
-// What a call leaves: the header and the answer.
-pub struct Made {
-    pub header: Header,
-    pub answer: Answer,
-}
-
-fn narrow(x: u64) -> u32 {
-    (x % 4_294_967_296) as u32
-}
-
-fn wide(x: u32) -> u64 {
-    x as u64
-}
-
-fn truth(b: bool) -> u64 {
-    if b { 1 } else { 0 }
-}
-
-fn key_number(idx: u64, version: u64) -> u64 {
-    (version << 32) | wide(narrow(idx))
-}
-
-fn value(found: Found) -> Answer {
-    match found {
-        Found::Value(x) => Answer::of(NUMBER, x),
-        Found::Refused(why) => Answer::refused(why),
-    }
-}
-
-fn started(h: Header, start: Started) -> Made {
-    match start {
-        Started::With(g) => Made {
-            header: g,
-            answer: Answer::of(DONE, 0),
-        },
-        Started::Refused(why) => Made {
-            header: h,
-            answer: Answer::refused(why),
-        },
-    }
-}
-
-// ---- a table begun, filled and emptied
-
-fn begin_from(
-    h: Header,
-    versions: &mut [u32],
-    links: &mut [u32],
-    keys: &mut [u64],
-    values: &mut [u64],
-    image: bool,
-    bytes: &[u8],
-) -> Made {
-    if image {
-        return started(h, image_read::rebuild(versions, links, keys, values, bytes));
-    }
-    started(h, dense::fresh(versions, links, keys, values))
-}
-
-// A table begun anew, or rebuilt from the image that the digits spell.
-fn begin(
-    h: Header,
-    versions: &mut [u32],
-    links: &mut [u32],
-    keys: &mut [u64],
-    values: &mut [u64],
-    image: bool,
-    bytes: &[u8],
-    digits: usize,
-) -> Made {
-    let n = digits / 2;
-    if bytes.len() < n {
-        return begin_from(h, versions, links, keys, values, false, bytes);
-    }
-    begin_from(h, versions, links, keys, values, image, &bytes[..n])
-}
-
-fn insert(
-    h: Header,
-    versions: &mut [u32],
-    links: &mut [u32],
-    keys: &mut [u64],
-    values: &mut [u64],
-    x: u64,
-) -> Made {
-    let inserted = dense_enter::insert(h, versions, links, keys, values, x);
-    let g = inserted.header;
-    let key = inserted.answer;
-    match key {
-        Issued::Key(k) => Made {
-            header: g,
-            answer: Answer::of(KEY, k),
-        },
-        Issued::Refused(why) => Made {
-            header: g,
-            answer: Answer::refused(why),
-        },
-    }
-}
-
-fn leave(
-    h: Header,
-    versions: &mut [u32],
-    links: &mut [u32],
-    keys: &mut [u64],
-    values: &mut [u64],
-    frees: bool,
-    k: u64,
-) -> Made {
-    if frees {
-        let removed = dense_leave::remove(h, versions, links, keys, values, k);
-        let g = removed.header;
-        let old = removed.answer;
-        return Made {
-            header: g,
-            answer: value(old),
-        };
-    }
-    let detached = dense_leave::detach(h, versions, links, keys, values, k);
-    let g = detached.header;
-    let old = detached.answer;
-    Made {
-        header: g,
-        answer: value(old),
-    }
-}
-
-// ---- images
 
 // What an image would be rebuilt as, in a table of so many slots at most.
 fn judge(bytes: &[u8], digits: usize, most: usize) -> Answer {
@@ -221,18 +96,6 @@ fn write_in(
         return Answer::of(DONE, 0);
     }
     write(h, versions, links, keys, values, &mut out[..room], digest)
-}
-
-// ---- all of them
-
-fn state(h: Header, versions: &[u32], links: &[u32], keys: &[u64], values: &[u64]) -> u64 {
-    let sound = truth(dense_sound::is_sound(h, versions, links, keys, values));
-    let header = replay::mix(
-        replay::mix(replay::mix(replay::mix(0, sound), wide(h.n)), wide(h.s)),
-        wide(h.f),
-    );
-    let slots = replay::mix_u32(replay::mix_u32(header, versions), links);
-    replay::mix_u64(replay::mix_u64(slots, keys), values)
 }
 
 // The calls that store.
@@ -316,13 +179,6 @@ fn call(
     edit(h, versions, links, keys, values, bytes, digits, line)
 }
 
-fn nothing(h: Header) -> Made {
-    Made {
-        header: h,
-        answer: Answer::of(DONE, 0),
-    }
-}
-
 // Lends a line the parts that a table of C has.
 pub fn call_on(
     h: Header,
@@ -360,12 +216,4 @@ pub fn call_on(
         out,
         line,
     )
-}
-
-// The size of the table after a line.
-pub fn size(line: Line, c: usize) -> usize {
-    if line.op == b'C' {
-        return line.c as usize;
-    }
-    c
 }

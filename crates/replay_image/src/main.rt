@@ -1,6 +1,5 @@
 // Replays the crate's list of slot images, written and rebuilt: a line of input is a call, a line of output its answer.
 mod calls;
-mod input;
 
 use table::Header;
 
@@ -14,16 +13,16 @@ fn main() {
     let mut bytes = [0u8; 65600];
     let mut h = Header { n: 0, s: 0, f: 0 };
     let mut c = 0;
-    let mut r = input::start();
+    let mut r = replay_input::start();
     let mut turns = u64::MAX;
     while turns > 0 {
         turns -= 1;
-        r = input::next_line(r, &mut buf, &mut bytes);
+        r = replay_input::next_line(r, &mut buf, &mut bytes);
         if !r.more {
             break;
         }
         let line = r.line;
-        c = calls::size(line, c);
+        c = replay_answers::size(line, c);
         let made = calls::call_on(
             h,
             &mut versions,

@@ -1,6 +1,5 @@
 // Replays the crate's list of calls on secondary maps: a line of input is a call, a line of output its answer.
 mod calls;
-mod input;
 
 use secondary::MapHeader;
 
@@ -28,20 +27,25 @@ fn main() {
     let mut wanted = [0u64; 8];
     let mut count = 0;
     let mut buf = io::large_buffer();
+    let mut bytes = [0u8; 65600];
     let mut h = MapHeader { s: 0, count: 0 };
     let mut l = 0;
-    let mut r = input::start();
+    let mut r = replay_input::start();
     let mut turns = u64::MAX;
     while turns > 0 {
         turns -= 1;
-        r = input::next_line(r, &mut buf);
+        r = replay_input::next_line(r, &mut buf, &mut bytes);
         if !r.more {
             break;
         }
         let line = r.line;
         l = calls::size(line, l);
         if line.op == b'k' {
-            count = want(&mut wanted, count, calls::key_number(line.b, line.c));
+            count = want(
+                &mut wanted,
+                count,
+                replay_answers::key_number(line.b, line.c),
+            );
             continue;
         }
         let made = calls::call_on(

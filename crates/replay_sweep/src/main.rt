@@ -1,28 +1,14 @@
 // Replays the crate's list of sweeps over dense tables: a line of input is a call, a line of output its answer.
 mod calls;
-mod input;
 
-use calls::Made;
-use input::Reader;
+use replay_answers::Made;
+use replay_answers::key_number;
+use replay_answers::nothing;
+use replay_answers::size;
+use replay_edits::begin;
+use replay_input::Reader;
+use replay_sweeps::disjoint;
 use table::Header;
-
-// A line that begins a table, anew or from an image.
-fn begin(
-    h: Header,
-    versions: &mut [u32],
-    links: &mut [u32],
-    keys: &mut [u64],
-    values: &mut [u64],
-    bytes: &[u8],
-    digits: usize,
-    image: bool,
-) -> Made {
-    let n = digits / 2;
-    if bytes.len() < n {
-        return calls::begin(h, versions, links, keys, values, false, bytes);
-    }
-    calls::begin(h, versions, links, keys, values, image, &bytes[..n])
-}
 
 // A line about a table: begun, a disjoint, or another call.
 fn act(
@@ -46,15 +32,15 @@ fn act(
             links,
             keys,
             values,
+            op == b'R',
             bytes,
             r.digits,
-            op == b'R',
         );
     }
     if op == b'j' {
         return Made {
             header: h,
-            answer: calls::disjoint(h, versions, links, keys, values, places, wanted, count),
+            answer: disjoint(h, versions, links, keys, values, places, wanted, count),
         };
     }
     calls::call(h, versions, links, keys, values, places, line)
@@ -75,16 +61,16 @@ fn act_on(
     r: Reader,
 ) -> Made {
     if versions.len() <= c {
-        return calls::nothing(h);
+        return nothing(h);
     }
     if links.len() <= c {
-        return calls::nothing(h);
+        return nothing(h);
     }
     if keys.len() < c {
-        return calls::nothing(h);
+        return nothing(h);
     }
     if values.len() < c {
-        return calls::nothing(h);
+        return nothing(h);
     }
     let slots = c + 1;
     act(
@@ -130,18 +116,18 @@ fn main() {
     let mut bytes = [0u8; 65600];
     let mut h = Header { n: 0, s: 0, f: 0 };
     let mut c = 0;
-    let mut r = input::start();
+    let mut r = replay_input::start();
     let mut turns = u64::MAX;
     while turns > 0 {
         turns -= 1;
-        r = input::next_line(r, &mut buf, &mut bytes);
+        r = replay_input::next_line(r, &mut buf, &mut bytes);
         if !r.more {
             break;
         }
         let line = r.line;
-        c = calls::size(line, c);
+        c = size(line, c);
         if line.op == b'k' {
-            count = want(&mut wanted, count, calls::key_number(line.b, line.c));
+            count = want(&mut wanted, count, key_number(line.b, line.c));
             continue;
         }
         let made = act_on(

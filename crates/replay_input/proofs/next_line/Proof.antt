@@ -2,15 +2,15 @@
 use Prim.Native.Nat.{_≤_}
 use borrow.Author.Needs.{needs}
 use native.Mathlib.Omega.{arith}
-use Rattle.replay_dense.proofs.input.next_line.Statement.{statement}
-use Rattle.replay_dense.proofs.input.next_line.Tie as tie
+use Rattle.replay_input.proofs.next_line.Statement.{statement}
+use Rattle.replay_input.proofs.next_line.Tie as tie
 
 abbrev Inv-loop : tie.InvT-loop
-Inv-loop buf₀ now₀ turns₀ buf now turns =
+Inv-loop buf₀ bytes₀ now₀ turns₀ buf bytes now turns =
     turns ≤ turns₀
 
 abbrev μ-loop : tie.MeasureT-loop
-μ-loop buf₀ now₀ turns₀ buf now turns = turns
+μ-loop buf₀ bytes₀ now₀ turns₀ buf bytes now turns = turns
 
 pub next-line-spec : {M : Type 1} → statement M
 next-line-spec = tie.close (tie.spec Inv-loop μ-loop (λ c κs. search needs) (λ c. search needs) (λ c. search needs) (λ c κs. search needs) (λ c. search needs) (λ c. search needs) (λ c κs. search needs) (λ c. search needs) (λ c. search needs) (λ c. search needs) (λ c. search needs) (λ c. search needs) (λ c. search needs))

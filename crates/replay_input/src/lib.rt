@@ -1,4 +1,4 @@
-// The lines of the input, read byte by byte.
+// The lines of a replay's input, read byte by byte; the digits of an image go into a buffer of its own.
 use libc::STDIN_FILENO;
 use replay::Line;
 
