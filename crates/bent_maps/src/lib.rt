@@ -36,7 +36,7 @@ use bent_slots::stepped;
 use bent_slots::sweep;
 use bent_slots::swept;
 use bent_slots::tested;
-use secondary::MapHeader;
+use map::MapHeader;
 
 const LETTERS: [u8; 20] = *b"IIIIIRRTTYYZPJJGCKSL";
 

@@ -1,4 +1,5 @@
 // The calls on a secondary map, each answered for the list. The arrays are the parts that the map has.
+use map::MapHeader;
 use replay::Answer;
 use replay::DIGEST;
 use replay::DONE;
@@ -14,7 +15,6 @@ use rules::Rule;
 use secondary::Found;
 use secondary::Got;
 use secondary::Length;
-use secondary::MapHeader;
 use secondary::Step;
 use secondary::Truth;
 use secondary_edit::Begun;

@@ -1,4 +1,5 @@
 // A line of the list, as a call on a secondary map. The arrays are the parts that the map has.
+use map::MapHeader;
 use replay::Answer;
 use replay::DONE;
 use replay::Line;
@@ -13,7 +14,6 @@ use replay_maps::look_at;
 use replay_maps::remove;
 use replay_maps::rule;
 use replay_maps::sweep;
-use secondary::MapHeader;
 
 fn looks(op: u8) -> bool {
     op == b'l' || op == b'f' || op == b'y' || op == b's'

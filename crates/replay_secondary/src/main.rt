@@ -1,7 +1,7 @@
 // Replays the crate's list of calls on secondary maps: a line of input is a call, a line of output its answer.
 mod calls;
 
-use secondary::MapHeader;
+use map::MapHeader;
 
 // A key more for the next disjoint. Answers how many there are.
 fn want(wanted: &mut [u64; 8], count: usize, k: u64) -> usize {

@@ -13,8 +13,8 @@ use Rattle.secondary.specs.declared.Got.{Got}
 use Rattle.secondary.specs.declared.Got.the-variants as Got·
 use Rattle.secondary.specs.declared.Step.{Step}
 use Rattle.secondary.specs.declared.Step.the-variants as Step·
-use Rattle.secondary.specs.Map.{Map}
-use Rattle.secondary.specs.Calls.{Said, Out}
+use Rattle.map.specs.Map.{Map}
+use Rattle.map.specs.Calls.{Said, Out}
 use Rattle.secondary.specs.Answers.{lengthOf, truthOf, foundOf, gotOf, stepOf}
 
 -- ---- the readings

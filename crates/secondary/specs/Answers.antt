@@ -4,7 +4,7 @@ use Prim.Native.Nat.{ℕ}
 use denote.Ref.{RefT}
 use denote.Triple.Both.{Both}
 use Rattle.refusal.specs.Refusals.{numberOf}
-use Rattle.secondary.specs.declared.MapHeader.{MapHeader}
+use Rattle.map.specs.declared.MapHeader.{MapHeader}
 use Rattle.secondary.specs.declared.Length.{Length}
 use Rattle.secondary.specs.declared.Length.the-variants as Length·
 use Rattle.secondary.specs.declared.Truth.{Truth}
@@ -15,8 +15,8 @@ use Rattle.secondary.specs.declared.Got.{Got}
 use Rattle.secondary.specs.declared.Got.the-variants as Got·
 use Rattle.secondary.specs.declared.Step.{Step}
 use Rattle.secondary.specs.declared.Step.the-variants as Step·
-use Rattle.secondary.specs.Map.{Map}
-use Rattle.secondary.specs.Calls.{Said, said-value, said-count, said-truth, said-element, said-done, refused, Judged, found, fails}
+use Rattle.map.specs.Map.{Map}
+use Rattle.map.specs.Calls.{Said, said-value, said-count, said-truth, said-element, said-done, refused, Judged, found, fails}
 
 -- ---- the lent arrays
 

@@ -1,5 +1,1 @@
-pub mod Map
-pub mod Calls
-pub mod Whole
-pub mod Sweeps
 pub mod Answers

@@ -1,21 +1,16 @@
 // The secondary map: values beside the keys of a table, in two lent arrays of one length. A slot of version 0 is vacant.
-// This crate has what the map is, and the calls that store nothing.
+// This crate has the calls that store nothing.
 ghost use mathlib.Core.Path.{_≡_};
 ghost use Prim.Native.Nat.{_≤_};
 ghost use lib.ListN.{length};
 ghost use Rattle.refusal.specs.Refusals.{numberOf};
-ghost use Rattle.secondary.specs.Map.{lengthsFit, hasShape, isThere, absent};
-ghost use Rattle.secondary.specs.Whole.{isWhole};
-ghost use Rattle.secondary.specs.Calls.{len, isEmpty, contains, slot, lookup, ahead, peek};
+ghost use Rattle.map.specs.Map.{lengthsFit, hasShape, isThere, absent};
+ghost use Rattle.map.specs.Whole.{isWhole};
+ghost use Rattle.map.specs.Calls.{len, isEmpty, contains, slot, lookup, ahead, peek};
 ghost use Rattle.secondary.specs.Answers.{before, after, lengthOf, truthOf, foundOf, gotOf, stepOf};
 use keys::KeyData;
+use map::MapHeader;
 use refusal::Refusal;
-
-// The two numbers of a map: slots and elements.
-pub struct MapHeader {
-    pub s: u32,
-    pub count: u32,
-}
 
 // The longest arrays that a map takes.
 const LIMIT: usize = 4097;

@@ -1,8 +1,8 @@
 // Situations of the secondary map, each run through the real arrays. The remarks of standard input say what the rules give, one before each
 // situation; the lines after a remark are what the calls answer.
 use keys::KeyData;
+use map::MapHeader;
 use rules::Rule;
-use secondary::MapHeader;
 use secondary::is_whole;
 use secondary::lookup;
 use secondary_edit::fresh;

@@ -5,11 +5,11 @@ use mathlib.Core.List.{List}
 use Prim.Native.Nat.{ℕ}
 use Rattle.refusal.specs.Refusals.{numberOf}
 use Rattle.refusal.proofs.Numbers.{number-one-to-one}
-use Rattle.secondary.specs.declared.MapHeader.{MapHeader}
+use Rattle.map.specs.declared.MapHeader.{MapHeader}
 use Rattle.secondary.specs.declared.Got.{Got}
 use Rattle.secondary.specs.declared.Step.{Step}
-use Rattle.secondary.specs.Map.{Map}
-use Rattle.secondary.specs.Calls.{Out, Begun as Begins}
+use Rattle.map.specs.Map.{Map}
+use Rattle.map.specs.Calls.{Out, Begun as Begins}
 use Rattle.secondary.specs.Answers.{gotOf, stepOf}
 use Rattle.secondary.proofs.Only.{got-one-to-one, step-one-to-one, out-only}
 use Rattle.secondary_edit.specs.declared.Begun.{Begun}

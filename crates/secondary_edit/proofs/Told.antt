@@ -5,10 +5,10 @@ use Prim.Native.Nat.{ℕ, _<_}
 use lib.ListN.{length}
 use Rattle.keys.specs.Keys.{keyOf}
 use Rattle.keys.specs.declared.KeyData.{KeyData}
-use Rattle.secondary.specs.Map.{Map, grown}
-use Rattle.secondary.specs.Calls.{fate, fated, insert}
-use Rattle.secondary.proofs.Shaped.{Shaped}
-use Rattle.secondary.proofs.Ways.{insert-by, insert-old, read-some, insert-key, settles, comes, compares, slot-there}
+use Rattle.map.specs.Map.{Map, grown}
+use Rattle.map.specs.Calls.{fate, fated, insert}
+use Rattle.map.proofs.Shaped.{Shaped}
+use Rattle.map.proofs.Ways.{insert-by, insert-old, read-some, insert-key, settles, comes, compares, slot-there}
 use Rattle.secondary_edit.specs.declared.Fate.{Fate}
 use Rattle.secondary_edit.specs.Outcomes.{fateOf}
 

@@ -1,6 +1,6 @@
 -- The rules' reading of what the calls that store answer, with the map after them. Assumes nothing.
 use Rattle.refusal.specs.Refusals.{numberOf}
-use Rattle.secondary.specs.Calls.{Said, said-ignored, said-replaced, said-kept, said-stored, refused, Out, Begun as Begins, begins, cannot, Fate as Fated, ignores, replaces, keeps, stores, bars}
+use Rattle.map.specs.Calls.{Said, said-ignored, said-replaced, said-kept, said-stored, refused, Out, Begun as Begins, begins, cannot, Fate as Fated, ignores, replaces, keeps, stores, bars}
 use Rattle.secondary.specs.Answers.{Lent, after, gotOf, stepOf}
 use Rattle.secondary_edit.specs.declared.Begun.{Begun}
 use Rattle.secondary_edit.specs.declared.Begun.the-variants as Begun·

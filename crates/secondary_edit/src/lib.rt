@@ -3,15 +3,15 @@ ghost use mathlib.Core.Path.{_≡_};
 ghost use Prim.Native.Nat.{_≤_, _<_};
 ghost use lib.ListN.{length};
 ghost use Rattle.keys.specs.Keys.{far};
-ghost use Rattle.secondary.specs.Map.{older, grown, stored, emptied};
-ghost use Rattle.secondary.specs.Calls.{fresh, put, settled, fate, insert, leaving, remove, drain};
+ghost use Rattle.map.specs.Map.{older, grown, stored, emptied};
+ghost use Rattle.map.specs.Calls.{fresh, put, settled, fate, insert, leaving, remove, drain};
 ghost use Rattle.secondary.specs.Answers.{before, after, foundOf, gotOf};
 ghost use Rattle.secondary_edit.specs.Outcomes.{begunOf, fateOf, insertionOf, removalOf, drainedOf};
 use keys::KeyData;
+use map::MapHeader;
 use refusal::Refusal;
 use secondary::Found;
 use secondary::Got;
-use secondary::MapHeader;
 use secondary::Step;
 
 // ---- fresh

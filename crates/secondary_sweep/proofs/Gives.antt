@@ -8,9 +8,9 @@ use borrow.Author.Tests.{le-leb, lt-leb}
 use Rattle.lists.specs.Put.{put}
 use Rattle.refusal.specs.declared.Refusal.{Refusal}
 use Rattle.refusal.specs.Refusals.{numberOf}
-use Rattle.secondary.specs.Map.{Map, hasShape}
-use Rattle.secondary.specs.Calls.{said-done, refused}
-use Rattle.secondary.specs.Sweeps.{Slots, slotsOf, given, disjoint}
+use Rattle.map.specs.Map.{Map, hasShape}
+use Rattle.map.specs.Calls.{said-done, refused}
+use Rattle.map.specs.Sweeps.{Slots, slotsOf, given, disjoint}
 use Rattle.secondary_sweep.specs.declared.Marked.{Marked}
 use Rattle.secondary_sweep.specs.declared.Marked.the-variants.{All, Stopped}
 use Rattle.secondary_sweep.specs.Marks.{indexes, unmarked, marksOf, Marking}

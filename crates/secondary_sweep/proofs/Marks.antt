@@ -12,7 +12,7 @@ use lib.Seq.{getD-set-same, getD-set-other}
 use Rattle.lists.proofs.Tests.{true-false, false-if}
 use Rattle.keys.specs.Keys.{idx, version, asRead, pack}
 use Rattle.keys.proofs.Keys.{idx-read, is-read, version-odd}
-use Rattle.secondary.specs.Map.{Map, ver}
+use Rattle.map.specs.Map.{Map, ver}
 use Rattle.lists.specs.Among.{among}
 use Rattle.lists.proofs.Among.{among-none, among-same, among-there, among-cases}
 

@@ -5,9 +5,9 @@ use mathlib.Core.List.{List}
 use Prim.Native.Nat.{ℕ}
 use Rattle.refusal.specs.Refusals.{numberOf}
 use Rattle.refusal.proofs.Numbers.{number-one-to-one}
-use Rattle.secondary.specs.declared.MapHeader.{MapHeader}
-use Rattle.secondary.specs.Map.{Map}
-use Rattle.secondary.specs.Calls.{Out}
+use Rattle.map.specs.declared.MapHeader.{MapHeader}
+use Rattle.map.specs.Map.{Map}
+use Rattle.map.specs.Calls.{Out}
 use Rattle.secondary.proofs.Only.{out-only}
 use Rattle.secondary_sweep.specs.declared.Swept.{Swept}
 use Rattle.secondary_sweep.specs.declared.Swept.the-variants as Swept·

@@ -16,13 +16,13 @@ use Rattle.refusal.specs.declared.Refusal.{Refusal}
 use Rattle.refusal.specs.Refusals.{numberOf}
 use Rattle.keys.specs.Keys.{idx, version, asRead, keyOf}
 use Rattle.keys.specs.declared.KeyData.{KeyData}
-use Rattle.secondary.specs.Map.{Map, hasShape, isThere, absent}
-use Rattle.secondary.specs.Calls.{found, fails, slotIn, slot}
+use Rattle.map.specs.Map.{Map, hasShape, isThere, absent}
+use Rattle.map.specs.Calls.{found, fails, slotIn, slot}
 use Rattle.lists.specs.Among.{among}
-use Rattle.secondary.specs.Sweeps.{Slots, slots, misses, slotted, slotsOf}
-use Rattle.secondary.proofs.Shaped.{shaped, shape-true}
-use Rattle.secondary.proofs.Cases.{there, there-true, slot-absent, slot-there}
-use Rattle.secondary.proofs.Stands.{Stands}
+use Rattle.map.specs.Sweeps.{Slots, slots, misses, slotted, slotsOf}
+use Rattle.map.proofs.Shaped.{shaped, shape-true}
+use Rattle.map.proofs.Cases.{there, there-true, slot-absent, slot-there}
+use Rattle.map.proofs.Stands.{Stands}
 use Rattle.secondary_sweep.specs.declared.Marked.the-variants.{All, Stopped}
 use Rattle.secondary_sweep.specs.Marks.{indexes, unmarked, Marking}
 use Rattle.secondary_sweep.proofs.Marks.{Spot, spot-free, spot-there, spot-repeated, spot-marked}

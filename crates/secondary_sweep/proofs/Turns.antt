@@ -8,18 +8,18 @@ use native.Mathlib.Decide.{ℕ-discrete, decLt}
 use lib.ListN.{length}
 use Rattle.refusal.specs.Refusals.{numberOf}
 use Rattle.refusal.specs.declared.Refusal.{Refusal}
-use Rattle.secondary.specs.Map.{Map, ver, emptied}
+use Rattle.map.specs.Map.{Map, ver, emptied}
 use Rattle.secondary.specs.declared.Step.{Step}
 use Rattle.secondary.specs.declared.Step.the-variants.{Element, Done, Refused}
-use Rattle.secondary.specs.Calls.{said-element, said-done, refused, Out, drain}
+use Rattle.map.specs.Calls.{said-element, said-done, refused, Out, drain}
 use Rattle.secondary.specs.Answers.{stepOf}
-use Rattle.secondary.specs.Whole.{Whole}
-use Rattle.secondary.specs.Sweeps.{sieved, retaining, clearing}
-use Rattle.secondary.proofs.Shaped.{shaped}
-use Rattle.secondary.proofs.Slots.{emptied-at, emptied-off, emptied-count, emptied-length}
-use Rattle.secondary.proofs.Seek.{ahead-passed}
-use Rattle.secondary.proofs.Drains.{taken, drain-stays, drain-skips}
-use Rattle.secondary.proofs.Sieves.{whole-sieved, sieved-slots, sieved-length}
+use Rattle.map.specs.Whole.{Whole}
+use Rattle.map.specs.Sweeps.{sieved, retaining, clearing}
+use Rattle.map.proofs.Shaped.{shaped}
+use Rattle.map.proofs.Slots.{emptied-at, emptied-off, emptied-count, emptied-length}
+use Rattle.map.proofs.Seek.{ahead-passed}
+use Rattle.map.proofs.Drains.{taken, drain-stays, drain-skips}
+use Rattle.map.proofs.Sieves.{whole-sieved, sieved-slots, sieved-length}
 
 -- ---- retain: m₀ is the map at the start, m the map with the slots below i looked at
 

@@ -5,8 +5,8 @@ use Prim.Native.Nat.{ℕ, zero, suc, _≤_, _<_}
 use lib.ListN.{length, getD, set}
 use Rattle.refusal.specs.Refusals.{numberOf}
 use Rattle.keys.specs.Keys.{idx, version}
-use Rattle.secondary.specs.Map.{Map}
-use Rattle.secondary.specs.Sweeps.{Slots, slots, misses, slotsOf}
+use Rattle.map.specs.Map.{Map}
+use Rattle.map.specs.Sweeps.{Slots, slots, misses, slotsOf}
 use Rattle.secondary_sweep.specs.declared.Marked.{Marked}
 use Rattle.secondary_sweep.specs.declared.Marked.the-variants as Marked·
 

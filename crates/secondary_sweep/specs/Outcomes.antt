@@ -3,9 +3,9 @@ use mathlib.Core.List.{List}
 use Prim.Native.Nat.{ℕ}
 use denote.Ref.{RefT}
 use Rattle.refusal.specs.Refusals.{numberOf}
-use Rattle.secondary.specs.declared.MapHeader.{MapHeader}
-use Rattle.secondary.specs.Map.{Map}
-use Rattle.secondary.specs.Calls.{Said, said-done, refused, Out}
+use Rattle.map.specs.declared.MapHeader.{MapHeader}
+use Rattle.map.specs.Map.{Map}
+use Rattle.map.specs.Calls.{Said, said-done, refused, Out}
 use Rattle.secondary.specs.Answers.{Lent, after}
 use Rattle.secondary_sweep.specs.declared.Swept.{Swept}
 use Rattle.secondary_sweep.specs.declared.Swept.the-variants as Swept·

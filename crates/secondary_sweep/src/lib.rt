@@ -6,17 +6,17 @@ ghost use lib.ListN.{length, getD};
 ghost use Rattle.lists.specs.Put.{put};
 ghost use Rattle.keys.specs.Keys.{idx};
 ghost use Rattle.rules.specs.Rules.{keepsOf};
-ghost use Rattle.secondary.specs.Map.{hasShape};
-ghost use Rattle.secondary.specs.Whole.{Whole};
-ghost use Rattle.secondary.specs.Sweeps.{sieved, retaining, retain, clearing, clear, disjoint};
+ghost use Rattle.map.specs.Map.{hasShape};
+ghost use Rattle.map.specs.Whole.{Whole};
+ghost use Rattle.map.specs.Sweeps.{sieved, retaining, retain, clearing, clear, disjoint};
 ghost use Rattle.secondary.specs.Answers.{before, after};
 ghost use Rattle.secondary_sweep.specs.Outcomes.{sweptOf, sweepOf, handed};
 ghost use Rattle.secondary_sweep.specs.Marks.{indexes, unmarked, Marking};
 use keys::KeyData;
+use map::MapHeader;
 use refusal::Refusal;
 use rules::Rule;
 use secondary::Found;
-use secondary::MapHeader;
 use secondary::Step;
 
 pub enum Swept {

@@ -1,11 +1,11 @@
 // The calls that change a secondary map, with each answer printed as a line: for programs that tell what they do. Each hands back the header.
 ghost use mathlib.Core.Path.{_≡_};
 ghost use Rattle.secondary.specs.Answers.{before, after};
-ghost use Rattle.secondary.specs.Calls.{insert, remove, drain};
-ghost use Rattle.secondary.specs.Sweeps.{retain, clear};
+ghost use Rattle.map.specs.Calls.{insert, remove, drain};
+ghost use Rattle.map.specs.Sweeps.{retain, clear};
+use map::MapHeader;
 use rules::Rule;
 use secondary::Got;
-use secondary::MapHeader;
 use secondary::Step;
 use secondary_edit::Begun;
 use secondary_edit::Inserted;

@@ -1,6 +1,6 @@
 -- `secondary::absent` meets its contract: the definition has the same number. Assumes nothing.
 use mathlib.Core.Path.{refl}
-use Rattle.secondary.specs.Map.{absent}
+use Rattle.map.specs.Map.{absent}
 use Rattle.secondary.proofs.absent.Statement.{statement}
 use Rattle.secondary.proofs.absent.Tie as tie
 

@@ -3,8 +3,8 @@ use mathlib.Core.Path.{_≡_, refl, sym, _∙_}
 use mathlib.Core.Logic.{⊎-elim}
 use Prim.Native.Nat.{_-_}
 use native.Mathlib.Omega.{arith}
-use Rattle.secondary.specs.Calls.{seek}
-use Rattle.secondary.proofs.Seek.{seek-occupied, seek-vacant, seek-end, ahead-from}
+use Rattle.map.specs.Calls.{seek}
+use Rattle.map.proofs.Seek.{seek-occupied, seek-vacant, seek-end, ahead-from}
 use borrow.Author.Needs.{needs}
 use Rattle.secondary.proofs.ahead.Statement.{statement}
 use Rattle.secondary.proofs.ahead.Tie as tie

@@ -1,6 +1,6 @@
 -- `secondary::is_empty` meets its contract: the shape is tested, then the count. Assumes nothing.
 use Rattle.lists.proofs.Tests.{refuted, confirmed}
-use Rattle.secondary.specs.Calls.{isEmpty}
+use Rattle.map.specs.Calls.{isEmpty}
 use borrow.Author.Needs.{needs}
 use Rattle.secondary.proofs.is_empty.Statement.{statement}
 use Rattle.secondary.proofs.is_empty.Tie as tie

@@ -4,9 +4,9 @@ use mathlib.Core.Logic.{⊎-elim}
 use Prim.Native.Nat.{_-_, _≤_}
 use native.Mathlib.Omega.{arith}
 use Rattle.lists.proofs.Tests.{refuted, confirmed}
-use Rattle.secondary.specs.Whole.{isWhole}
-use Rattle.secondary.proofs.Shaped.{shaped}
-use Rattle.secondary.proofs.Whole.{Scanned, scanned-start, scanned-few, scanned-vacant, scanned-odd, scanned-all, unfit, used}
+use Rattle.map.specs.Whole.{isWhole}
+use Rattle.map.proofs.Shaped.{shaped}
+use Rattle.map.proofs.Whole.{Scanned, scanned-start, scanned-few, scanned-vacant, scanned-odd, scanned-all, unfit, used}
 use borrow.Author.Needs.{needs}
 use Rattle.secondary.proofs.is_whole.Statement.{statement}
 use Rattle.secondary.proofs.is_whole.Tie as tie

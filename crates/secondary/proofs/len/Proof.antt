@@ -1,6 +1,6 @@
 -- `secondary::len` meets its contract: the shape is tested, and the count is the header's. Assumes nothing.
 use Rattle.lists.proofs.Tests.{refuted, confirmed}
-use Rattle.secondary.specs.Calls.{len}
+use Rattle.map.specs.Calls.{len}
 use borrow.Author.Needs.{needs}
 use Rattle.secondary.proofs.len.Statement.{statement}
 use Rattle.secondary.proofs.len.Tie as tie

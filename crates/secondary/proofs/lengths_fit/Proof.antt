@@ -1,7 +1,7 @@
 -- `secondary::lengths_fit` meets its contract: at each return the tests on the way decide the definition's. Assumes nothing.
 use native.Mathlib.Omega.{arith}
 use Rattle.lists.proofs.Tests.{tests}
-use Rattle.secondary.specs.Map.{lengthsFit}
+use Rattle.map.specs.Map.{lengthsFit}
 use Rattle.secondary.proofs.lengths_fit.Statement.{statement}
 use Rattle.secondary.proofs.lengths_fit.Tie as tie
 

@@ -1,7 +1,8 @@
 -- `secondary::lookup` meets its contract: the key's slot is judged, and its value read. Assumes nothing.
 use native.Mathlib.Omega.{arith}
-use Rattle.secondary.specs.Calls.{lookup}
-use Rattle.secondary.proofs.Stands.{found-at, stands}
+use Rattle.map.specs.Calls.{lookup}
+use Rattle.map.proofs.Stands.{stands}
+use Rattle.secondary.proofs.Answers.{found-at}
 use borrow.Author.Needs.{needs}
 use Rattle.secondary.proofs.lookup.Statement.{statement}
 use Rattle.secondary.proofs.lookup.Tie as tie

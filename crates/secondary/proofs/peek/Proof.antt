@@ -2,8 +2,8 @@
 use native.Mathlib.Omega.{arith}
 use borrow.Author.Tests.{lt-ltb, le-ltb}
 use Rattle.lists.proofs.Tests.{refuted, confirmed}
-use Rattle.secondary.specs.Calls.{keyAt, met, peek}
-use Rattle.secondary.proofs.Shaped.{shaped}
+use Rattle.map.specs.Calls.{keyAt, met, peek}
+use Rattle.map.proofs.Shaped.{shaped}
 use borrow.Author.Needs.{needs}
 use Rattle.secondary.proofs.peek.Statement.{statement}
 use Rattle.secondary.proofs.peek.Tie as tie

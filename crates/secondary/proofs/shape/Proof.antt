@@ -1,7 +1,7 @@
 -- `secondary::shape` meets its contract: the lengths' answer and the two tests decide the definition's. Assumes nothing.
 use native.Mathlib.Omega.{arith}
 use Rattle.lists.proofs.Tests.{tests, refuted, confirmed}
-use Rattle.secondary.specs.Map.{hasShape}
+use Rattle.map.specs.Map.{hasShape}
 use borrow.Author.Needs.{needs}
 use Rattle.secondary.proofs.shape.Statement.{statement}
 use Rattle.secondary.proofs.shape.Tie as tie

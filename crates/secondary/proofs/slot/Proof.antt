@@ -1,8 +1,8 @@
 -- `secondary::slot` meets its contract: the shape is tested, and the key's slot is looked at. Assumes nothing.
 use native.Mathlib.Omega.{arith}
 use Rattle.lists.proofs.Tests.{refuted, confirmed}
-use Rattle.secondary.specs.Calls.{slot, slotIn}
-use Rattle.secondary.proofs.Shaped.{shaped}
+use Rattle.map.specs.Calls.{slot, slotIn}
+use Rattle.map.proofs.Shaped.{shaped}
 use borrow.Author.Needs.{needs}
 use Rattle.secondary.proofs.slot.Statement.{statement}
 use Rattle.secondary.proofs.slot.Tie as tie

@@ -2,7 +2,7 @@
 use mathlib.Core.Path.{sym, ap, _∙_}
 use native.Mathlib.Omega.{arith}
 use Rattle.secondary.specs.Answers.{stepOf}
-use Rattle.secondary.proofs.Drains.{seen, seen-high, drain-empty, drain-takes, drain-done, drain-refused}
+use Rattle.map.proofs.Drains.{seen, seen-high, drain-empty, drain-takes, drain-done, drain-refused}
 use borrow.Author.Needs.{needs}
 use Rattle.secondary_edit.proofs.drain_step.Statement.{statement}
 use Rattle.secondary_edit.proofs.drain_step.Tie as tie

@@ -1,8 +1,8 @@
 -- `secondary_edit::fresh` meets its contract: the lengths are tested, and slot 0 made vacant. Assumes nothing.
 use native.Mathlib.Omega.{arith}
 use Rattle.lists.proofs.Tests.{refuted, confirmed}
-use Rattle.secondary.specs.Calls.{fresh}
-use Rattle.secondary.proofs.Shaped.{fits}
+use Rattle.map.specs.Calls.{fresh}
+use Rattle.map.proofs.Shaped.{fits}
 use borrow.Author.Needs.{needs}
 use Rattle.secondary_edit.proofs.fresh.Statement.{statement}
 use Rattle.secondary_edit.proofs.fresh.Tie as tie

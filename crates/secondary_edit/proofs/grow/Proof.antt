@@ -4,7 +4,7 @@ use Prim.Native.Nat.{_+_, _-_}
 use native.Mathlib.Omega.{arith}
 use lib.ListN.{length, replicate, length-set}
 use Rattle.lists.specs.Put.{put}
-use Rattle.secondary.proofs.Grown.{zeros-turn, zeros-end, grown-below, grown-is}
+use Rattle.map.proofs.Grown.{zeros-turn, zeros-end, grown-below, grown-is}
 use borrow.Author.Needs.{needs}
 use Rattle.secondary_edit.proofs.grow.Statement.{statement}
 use Rattle.secondary_edit.proofs.grow.Tie as tie

@@ -1,8 +1,8 @@
 -- `secondary_edit::insert` meets its contract: what the insert comes to is judged, and then stored. Assumes nothing.
 use mathlib.Core.Path.{refl, ap, _∙_}
 use native.Mathlib.Omega.{arith}
-use Rattle.secondary.specs.Map.{Map, withValue}
-use Rattle.secondary.specs.Calls.{said-stored}
+use Rattle.map.specs.Map.{Map, withValue}
+use Rattle.map.specs.Calls.{said-stored}
 use Rattle.secondary_edit.proofs.Told.{told-fits, told-out, told-old}
 use borrow.Author.Needs.{needs}
 use Rattle.secondary_edit.proofs.insert.Statement.{statement}

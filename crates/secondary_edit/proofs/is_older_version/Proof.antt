@@ -1,6 +1,6 @@
 -- `secondary_edit::is_older_version` meets its contract: the definition compares the same numbers. Assumes nothing.
 use mathlib.Core.Path.{refl}
-use Rattle.secondary.specs.Map.{older}
+use Rattle.map.specs.Map.{older}
 use Rattle.secondary_edit.proofs.is_older_version.Statement.{statement}
 use Rattle.secondary_edit.proofs.is_older_version.Tie as tie
 

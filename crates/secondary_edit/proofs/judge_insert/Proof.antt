@@ -2,9 +2,9 @@
 use mathlib.Core.Path.{sym, _∙_}
 use native.Mathlib.Omega.{arith}
 use Rattle.lists.proofs.Tests.{refuted, confirmed}
-use Rattle.secondary.specs.Calls.{fate}
-use Rattle.secondary.proofs.Shaped.{shaped}
-use Rattle.secondary.proofs.Fates.{fate-null, fate-zero, fate-far, fate-below, fate-above}
+use Rattle.map.specs.Calls.{fate}
+use Rattle.map.proofs.Shaped.{shaped}
+use Rattle.map.proofs.Fates.{fate-null, fate-zero, fate-far, fate-below, fate-above}
 use borrow.Author.Needs.{needs}
 use Rattle.secondary_edit.proofs.judge_insert.Statement.{statement}
 use Rattle.secondary_edit.proofs.judge_insert.Tie as tie

@@ -1,7 +1,7 @@
 -- `secondary_edit::leaving` meets its contract: the key's slot is judged, then the count. Assumes nothing.
 use borrow.Author.Tests.{eq-eqb, ne-eqb}
-use Rattle.secondary.specs.Calls.{leavingFrom, leaving}
-use Rattle.secondary.proofs.Stands.{found-at}
+use Rattle.map.specs.Calls.{leavingFrom, leaving}
+use Rattle.secondary.proofs.Answers.{found-at}
 use borrow.Author.Needs.{needs}
 use Rattle.secondary_edit.proofs.leaving.Statement.{statement}
 use Rattle.secondary_edit.proofs.leaving.Tie as tie

@@ -1,8 +1,9 @@
 -- `secondary_edit::put` meets its contract: the key's slot is judged, and its value overwritten. Assumes nothing.
 use native.Mathlib.Omega.{arith}
-use Rattle.secondary.specs.Map.{withValue}
-use Rattle.secondary.specs.Calls.{put}
-use Rattle.secondary.proofs.Stands.{found-at, stands}
+use Rattle.map.specs.Map.{withValue}
+use Rattle.map.specs.Calls.{put}
+use Rattle.map.proofs.Stands.{stands}
+use Rattle.secondary.proofs.Answers.{found-at}
 use borrow.Author.Needs.{needs}
 use Rattle.secondary_edit.proofs.put.Statement.{statement}
 use Rattle.secondary_edit.proofs.put.Tie as tie

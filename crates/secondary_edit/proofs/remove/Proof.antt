@@ -1,7 +1,8 @@
 -- `secondary_edit::remove` meets its contract: the slot is judged, its value read, and the slot made vacant. Assumes nothing.
 use native.Mathlib.Omega.{arith}
-use Rattle.secondary.specs.Calls.{remove}
-use Rattle.secondary.proofs.Stands.{found-at, leaves}
+use Rattle.map.specs.Calls.{remove}
+use Rattle.map.proofs.Stands.{leaves}
+use Rattle.secondary.proofs.Answers.{found-at}
 use borrow.Author.Needs.{needs}
 use Rattle.secondary_edit.proofs.remove.Statement.{statement}
 use Rattle.secondary_edit.proofs.remove.Tie as tie

@@ -2,7 +2,7 @@
 use mathlib.Core.Path.{sym, _∙_}
 use native.Mathlib.Omega.{arith}
 use Rattle.lists.proofs.Tests.{tests}
-use Rattle.secondary.specs.Calls.{settled}
+use Rattle.map.specs.Calls.{settled}
 use borrow.Author.Needs.{needs}
 use Rattle.secondary_edit.proofs.settle.Statement.{statement}
 use Rattle.secondary_edit.proofs.settle.Tie as tie

@@ -1,5 +1,5 @@
 -- `secondary_edit::store` meets its contract: the slot is made, and takes the key's version and the value. Assumes nothing.
-use Rattle.secondary.specs.Map.{stored}
+use Rattle.map.specs.Map.{stored}
 use borrow.Author.Needs.{needs}
 use Rattle.secondary_edit.proofs.store.Statement.{statement}
 use Rattle.secondary_edit.proofs.store.Tie as tie

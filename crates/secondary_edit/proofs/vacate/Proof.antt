@@ -1,6 +1,6 @@
 -- `secondary_edit::vacate` meets its contract: one store, and the header anew. Assumes nothing.
 use mathlib.Core.Path.{refl}
-use Rattle.secondary.specs.Map.{emptied}
+use Rattle.map.specs.Map.{emptied}
 use borrow.Author.Needs.{needs}
 use Rattle.secondary_edit.proofs.vacate.Statement.{statement}
 use Rattle.secondary_edit.proofs.vacate.Tie as tie

@@ -1,6 +1,6 @@
 -- `secondary_sweep::clear` meets its contract: the shape and the whole map are tested, and then the run is made. Assumes nothing.
 use Rattle.lists.proofs.Tests.{refuted, confirmed}
-use Rattle.secondary.specs.Sweeps.{clear}
+use Rattle.map.specs.Sweeps.{clear}
 use borrow.Author.Needs.{needs}
 use Rattle.secondary_sweep.proofs.clear.Statement.{statement}
 use Rattle.secondary_sweep.proofs.clear.Tie as tie

@@ -1,6 +1,6 @@
 -- `secondary_sweep::disjoint` meets its contract: the keys are marked and unmarked, and their slots put out. Assumes nothing.
 use Rattle.lists.proofs.Tests.{refuted, confirmed}
-use Rattle.secondary.specs.Sweeps.{disjoint}
+use Rattle.map.specs.Sweeps.{disjoint}
 use Rattle.secondary_sweep.proofs.Gives.{marking-told, gives-short, gives-done, gives-stopped}
 use borrow.Author.Needs.{needs}
 use Rattle.secondary_sweep.proofs.disjoint.Statement.{statement}

@@ -1,6 +1,6 @@
 -- `secondary_sweep::drain_all` meets its contract: each step goes on past vacant slots, so it is a step from the front. Assumes nothing.
 use mathlib.Core.Path.{ap, _∙_}
-use Rattle.secondary.specs.Calls.{Out}
+use Rattle.map.specs.Calls.{Out}
 use Rattle.secondary_sweep.proofs.Turns.{Draining, draining-start, draining-less, draining-turn, draining-ends, step-element, step-done, step-refused}
 use borrow.Author.Needs.{needs}
 use Rattle.secondary_sweep.proofs.drain_all.Statement.{statement}

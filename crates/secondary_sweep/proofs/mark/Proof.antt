@@ -4,7 +4,8 @@ use Prim.Native.Nat.{_-_}
 use native.Mathlib.Omega.{arith}
 use lib.ListN.{length}
 use Rattle.secondary.specs.Answers.{foundOf}
-use Rattle.secondary.proofs.Stands.{found-at, stands}
+use Rattle.map.proofs.Stands.{stands}
+use Rattle.secondary.proofs.Answers.{found-at}
 use Rattle.secondary_sweep.proofs.Runs.{Run, run-start, run-turn, marking-stopped, marking-all}
 use borrow.Author.Needs.{needs}
 use Rattle.secondary_sweep.proofs.mark.Statement.{statement}

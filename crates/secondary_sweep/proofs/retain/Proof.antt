@@ -1,7 +1,7 @@
 -- `secondary_sweep::retain` meets its contract: the shape and the whole map are tested, and then the run is made. Assumes nothing.
 use Rattle.lists.proofs.Tests.{refuted, confirmed}
-use Rattle.secondary.specs.Sweeps.{retain}
-use Rattle.secondary.proofs.Whole.{passes-whole}
+use Rattle.map.specs.Sweeps.{retain}
+use Rattle.map.proofs.Whole.{passes-whole}
 use borrow.Author.Needs.{needs}
 use Rattle.secondary_sweep.proofs.retain.Statement.{statement}
 use Rattle.secondary_sweep.proofs.retain.Tie as tie

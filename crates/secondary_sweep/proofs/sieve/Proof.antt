@@ -2,9 +2,9 @@
 use mathlib.Core.Path.{sym, ap, _∙_}
 use native.Mathlib.Omega.{arith}
 use Rattle.keys.specs.Keys.{numberOf}
-use Rattle.secondary.specs.Calls.{Out, keyAt}
-use Rattle.secondary.proofs.Shaped.{shaped}
-use Rattle.secondary.proofs.Sieves.{sieved-vacant, sieved-kept, sieved-removed}
+use Rattle.map.specs.Calls.{Out, keyAt}
+use Rattle.map.proofs.Shaped.{shaped}
+use Rattle.map.proofs.Sieves.{sieved-vacant, sieved-kept, sieved-removed}
 use borrow.Author.Needs.{needs}
 use Rattle.secondary_sweep.proofs.sieve.Statement.{statement}
 use Rattle.secondary_sweep.proofs.sieve.Tie as tie

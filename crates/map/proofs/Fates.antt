@@ -8,9 +8,9 @@ use lib.ListN.{length}
 use borrow.Author.Tests.{eq-eqb, ne-eqb, le-leb, lt-leb}
 use Rattle.keys.specs.Keys.{isNull}
 use Rattle.keys.specs.declared.KeyData.{KeyData}
-use Rattle.secondary.specs.Map.{Map, ver, hasShape, grown}
-use Rattle.secondary.specs.Calls.{ignores, bars, settled, fateIn, fate}
-use Rattle.secondary.proofs.Grown.{grown-below, grown-above, grown-new}
+use Rattle.map.specs.Map.{Map, ver, hasShape, grown}
+use Rattle.map.specs.Calls.{ignores, bars, settled, fateIn, fate}
+use Rattle.map.proofs.Grown.{grown-below, grown-above, grown-new}
 
 pub fate-unshaped : (m : Map) (key : KeyData) → hasShape m ≡ false → fate m key ≡ bars 1
 unfolding fate

@@ -11,8 +11,8 @@ use Rattle.lists.specs.Count.{count, every}
 use Rattle.lists.proofs.Tests.{split, true-false, false-if, and-true, and-left, and-right}
 use Rattle.lists.proofs.Count.{count-yes, count-no, every-at, at-every}
 use Rattle.lists.proofs.Changes.{count-le}
-use Rattle.secondary.specs.Map.{Map, ver, isOccupied, hasShape}
-use Rattle.secondary.specs.Whole.{Whole, isFit, isWhole}
+use Rattle.map.specs.Map.{Map, ver, isOccupied, hasShape}
+use Rattle.map.specs.Whole.{Whole, isFit, isWhole}
 
 -- ---- one version
 

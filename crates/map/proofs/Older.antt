@@ -7,7 +7,7 @@ use lib.Dec.{leb}
 use borrow.Author.Tests.{ltb-true, leb-true, lt-ltb, le-leb}
 use Rattle.lists.proofs.Tests.{same-test}
 use Rattle.keys.specs.Keys.{W}
-use Rattle.secondary.specs.Map.{older}
+use Rattle.map.specs.Map.{older}
 
 -- half of the 32-bit numbers
 abbrev pub half : ℕ

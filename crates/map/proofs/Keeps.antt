@@ -11,11 +11,11 @@ use borrow.Author.Tests.{eq-eqb, ne-eqb}
 use Rattle.lists.specs.Count.{count}
 use Rattle.lists.proofs.Count.{count-same}
 use Rattle.lists.proofs.Changes.{count-some, count-gap, count-room, count-more, count-falls}
-use Rattle.secondary.specs.Map.{Map, ver, isOccupied, grown, withValue, stored, emptied}
-use Rattle.secondary.specs.Whole.{Whole}
-use Rattle.secondary.proofs.Shaped.{shaped}
-use Rattle.secondary.proofs.Grown.{grown-below, grown-above, grown-new}
-use Rattle.secondary.proofs.Slots.{emptied-at, emptied-off, emptied-slots, emptied-count, emptied-shape, valued-shape, stored-at, stored-off, stored-slots, stored-count, stored-shape, grown-old, grown-count, grown-shape}
+use Rattle.map.specs.Map.{Map, ver, isOccupied, grown, withValue, stored, emptied}
+use Rattle.map.specs.Whole.{Whole}
+use Rattle.map.proofs.Shaped.{shaped}
+use Rattle.map.proofs.Grown.{grown-below, grown-above, grown-new}
+use Rattle.map.proofs.Slots.{emptied-at, emptied-off, emptied-slots, emptied-count, emptied-shape, valued-shape, stored-at, stored-off, stored-slots, stored-count, stored-shape, grown-old, grown-count, grown-shape}
 
 -- ---- occupied and vacant slots
 

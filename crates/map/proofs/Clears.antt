@@ -6,15 +6,15 @@ use native.Mathlib.Omega.{arith}
 use native.Mathlib.Decide.{ℕ-discrete, decLt}
 use Rattle.lists.specs.Count.{count}
 use Rattle.lists.proofs.Changes.{count-none}
-use Rattle.secondary.specs.Map.{Map, ver, isOccupied}
-use Rattle.secondary.specs.Calls.{Said, said-element, said-done, refused, drain, ahead}
-use Rattle.secondary.specs.Whole.{Whole}
-use Rattle.secondary.specs.Sweeps.{clearing}
-use Rattle.secondary.proofs.Seek.{ahead-passed}
-use Rattle.secondary.proofs.Slots.{emptied-off, emptied-values, emptied-slots, emptied-count}
-use Rattle.secondary.proofs.Keeps.{unoccupied, whole-some}
-use Rattle.secondary.proofs.Drains.{meets-ahead, by-drain, drain-meets, drain-stays, taken}
-use Rattle.secondary.proofs.Wholes.{whole-drain}
+use Rattle.map.specs.Map.{Map, ver, isOccupied}
+use Rattle.map.specs.Calls.{Said, said-element, said-done, refused, drain, ahead}
+use Rattle.map.specs.Whole.{Whole}
+use Rattle.map.specs.Sweeps.{clearing}
+use Rattle.map.proofs.Seek.{ahead-passed}
+use Rattle.map.proofs.Slots.{emptied-off, emptied-values, emptied-slots, emptied-count}
+use Rattle.map.proofs.Keeps.{unoccupied, whole-some}
+use Rattle.map.proofs.Drains.{meets-ahead, by-drain, drain-meets, drain-stays, taken}
+use Rattle.map.proofs.Wholes.{whole-drain}
 
 -- ---- one step
 

@@ -5,7 +5,7 @@ use mathlib.Core.Bool.{Bool, true, cond, _&&_}
 use Prim.Native.Nat.{ℕ, _%_, _<_}
 use lib.Dec.{eqb}
 use Rattle.lists.specs.Count.{count, every}
-use Rattle.secondary.specs.Map.{Map, ver, isOccupied, hasShape}
+use Rattle.map.specs.Map.{Map, ver, isOccupied, hasShape}
 
 pub record Whole (m : Map) : Type 0 where
   -- the lengths and s fit

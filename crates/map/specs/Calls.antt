@@ -7,8 +7,8 @@ use lib.Dec.{leb, ltb, eqb}
 use lib.ListN.{length, getD, set}
 use Rattle.keys.specs.Keys.{idx, version, odd, pack, keyOf, isNull}
 use Rattle.keys.specs.declared.KeyData.{KeyData}
-use Rattle.secondary.specs.declared.MapHeader.{MapHeader}
-use Rattle.secondary.specs.Map.{Map, ver, val, lengthsFit, hasShape, isThere, absent, older, grown, withValue, stored, emptied}
+use Rattle.map.specs.declared.MapHeader.{MapHeader}
+use Rattle.map.specs.Map.{Map, ver, val, lengthsFit, hasShape, isThere, absent, older, grown, withValue, stored, emptied}
 
 -- ---- answers
 

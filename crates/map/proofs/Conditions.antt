@@ -5,9 +5,9 @@ use mathlib.Core.Bool.{true, false}
 use Prim.Native.Nat.{ℕ, _-_, _≤_, _<_}
 use native.Mathlib.Omega.{arith}
 use Rattle.keys.specs.Keys.{idx, version, keyOf, isNull}
-use Rattle.secondary.specs.Map.{Map, ver, val, hasShape, older}
-use Rattle.secondary.specs.Calls.{Said, said-ignored, said-replaced, said-kept, said-stored, refused, Out, insert}
-use Rattle.secondary.proofs.Ways.{Placed, Taken, Way, unshaped, null, at-zero, too-far, same, under, over, vacant, crowded, new, new-crowded, way, outBy, insert-number}
+use Rattle.map.specs.Map.{Map, ver, val, hasShape, older}
+use Rattle.map.specs.Calls.{Said, said-ignored, said-replaced, said-kept, said-stored, refused, Out, insert}
+use Rattle.map.proofs.Ways.{Placed, Taken, Way, unshaped, null, at-zero, too-far, same, under, over, vacant, crowded, new, new-crowded, way, outBy, insert-number}
 
 -- "null key: ignored"
 pub record Ignores (m : Map) (k : ℕ) : Type 0 where

@@ -9,10 +9,10 @@ use lib.Dec.{ltb}
 use lib.ListN.{length}
 use borrow.Author.Tests.{ltb-true, lt-ltb, le-ltb, eq-eqb, ne-eqb}
 use Rattle.lists.proofs.Tests.{split}
-use Rattle.secondary.specs.Map.{Map, ver, val, hasShape, emptied}
-use Rattle.secondary.specs.Calls.{said-element, said-done, refused, Out, leavingFrom, keyAt, element, meets, nothing, stops, met, peek, drained, drain, ahead}
-use Rattle.secondary.proofs.Shaped.{shaped}
-use Rattle.secondary.proofs.Seek.{ahead-after, ahead-passed, ahead-occupied}
+use Rattle.map.specs.Map.{Map, ver, val, hasShape, emptied}
+use Rattle.map.specs.Calls.{said-element, said-done, refused, Out, leavingFrom, keyAt, element, meets, nothing, stops, met, peek, drained, drain, ahead}
+use Rattle.map.proofs.Shaped.{shaped}
+use Rattle.map.proofs.Seek.{ahead-after, ahead-passed, ahead-occupied}
 
 -- ---- the slot ahead
 

@@ -1,5 +1,5 @@
 -- What it means that a key is there: the judgement behind lookup, put and remove, as facts and back. Assumes nothing.
-use mathlib.Core.Path.{_≡_, refl, sym, ap, _∙_}
+use mathlib.Core.Path.{_≡_, refl}
 use mathlib.Core.Logic.{_≢_}
 use mathlib.Core.Bool.{Bool, true, false, cond}
 use Prim.Native.Nat.{ℕ, _<_}
@@ -8,12 +8,9 @@ use lib.Dec.{eqb}
 use borrow.Author.Tests.{eqb-false}
 use Rattle.lists.proofs.Tests.{split, parts}
 use Rattle.keys.specs.Keys.{idx, version}
-use Rattle.secondary.specs.declared.Found.{Found}
-use Rattle.secondary.specs.declared.Found.the-variants.{At}
-use Rattle.secondary.specs.Map.{Map, ver, isThere}
-use Rattle.secondary.specs.Calls.{Judged, found, fails, slotIn, slot, leavingFrom, leavingOf, leaving}
-use Rattle.secondary.specs.Answers.{foundOf}
-use Rattle.secondary.proofs.Shaped.{Shaped, shaped}
+use Rattle.map.specs.Map.{Map, ver, isThere}
+use Rattle.map.specs.Calls.{Judged, found, fails, slotIn, slot, leavingFrom, leavingOf, leaving}
+use Rattle.map.proofs.Shaped.{Shaped, shaped}
 
 -- ---- a judgement that found a slot has passed the test before it, and comes from what follows the test
 
@@ -43,10 +40,6 @@ stands m k i e =
     let low : idx k < m .head .s = search (passed, went, parts) in
     let is : ver m (idx k) ≡ version k = search (passed, went, parts) in
     record { shape = shaped m (search passed); index = at; below = omega arith; same = rw at at is }
-
--- what the arm of a found slot tells
-pub found-at : {r : Found} {q : Judged} {i : ℕ} → foundOf r ≡ q → r ≡ At i → q ≡ found i
-found-at e h = sym e ∙ ap foundOf h
 
 -- ---- the slot that a key's element leaves
 

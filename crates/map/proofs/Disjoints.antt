@@ -15,10 +15,10 @@ use Rattle.lists.proofs.Once.{Once, once-nil, once-cons}
 use Rattle.lists.proofs.Put.{getD-put-after}
 use Rattle.keys.specs.Keys.{idx, version, asRead}
 use Rattle.keys.proofs.Keys.{is-read, idx-read, version-read, read-read}
-use Rattle.secondary.specs.Map.{Map, ver, hasShape, isThere, absent}
-use Rattle.secondary.specs.Calls.{said-done, refused, Out, found, slotIn}
-use Rattle.secondary.specs.Sweeps.{Slots, slots, misses, slotted, slotsOf, given, disjoint}
-use Rattle.secondary.proofs.Cases.{there}
+use Rattle.map.specs.Map.{Map, ver, hasShape, isThere, absent}
+use Rattle.map.specs.Calls.{said-done, refused, Out, found, slotIn}
+use Rattle.map.specs.Sweeps.{Slots, slots, misses, slotted, slotsOf, given, disjoint}
+use Rattle.map.proofs.Cases.{there}
 use Rattle.lists.specs.Among.{among}
 use Rattle.lists.proofs.Among.{among-same, among-there}
 

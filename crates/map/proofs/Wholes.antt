@@ -11,17 +11,17 @@ use Rattle.lists.proofs.Count.{count-zero, count-no}
 use Rattle.lists.proofs.Tests.{split}
 use Rattle.keys.specs.Keys.{idx, version, keyOf}
 use Rattle.keys.proofs.Keys.{version-odd}
-use Rattle.secondary.specs.declared.MapHeader.{MapHeader}
-use Rattle.secondary.specs.Map.{Map, ver, isOccupied, lengthsFit, absent, grown, stored}
-use Rattle.secondary.specs.Calls.{refused, Out, begins, cannot, freshHead, freshMap, fresh, lookup, put, insert, remove, peek, drain}
-use Rattle.secondary.specs.Whole.{Whole}
-use Rattle.secondary.proofs.Shaped.{fits, shape-true}
-use Rattle.secondary.proofs.Slots.{grown-count}
-use Rattle.secondary.proofs.Grown.{grown-above, grown-new}
-use Rattle.secondary.proofs.Keeps.{unoccupied, whole-few, whole-some, whole-room, whole-emptied, whole-filled, whole-over, whole-valued, whole-grown}
-use Rattle.secondary.proofs.Cases.{there, by-slot, lookup-unshaped, lookup-absent, lookup-there, put-unshaped, put-absent, put-there, remove-unshaped, remove-absent, remove-there}
-use Rattle.secondary.proofs.Drains.{meeting, by-met, by-drain, peek-stops, peek-nothing, peek-meets, drain-stops, drain-nothing, drain-meets}
-use Rattle.secondary.proofs.Ways.{Way, unshaped, null, at-zero, too-far, same, under, over, vacant, crowded, new, new-crowded, way, outBy, insert-number, version-some}
+use Rattle.map.specs.declared.MapHeader.{MapHeader}
+use Rattle.map.specs.Map.{Map, ver, isOccupied, lengthsFit, absent, grown, stored}
+use Rattle.map.specs.Calls.{refused, Out, begins, cannot, freshHead, freshMap, fresh, lookup, put, insert, remove, peek, drain}
+use Rattle.map.specs.Whole.{Whole}
+use Rattle.map.proofs.Shaped.{fits, shape-true}
+use Rattle.map.proofs.Slots.{grown-count}
+use Rattle.map.proofs.Grown.{grown-above, grown-new}
+use Rattle.map.proofs.Keeps.{unoccupied, whole-few, whole-some, whole-room, whole-emptied, whole-filled, whole-over, whole-valued, whole-grown}
+use Rattle.map.proofs.Cases.{there, by-slot, lookup-unshaped, lookup-absent, lookup-there, put-unshaped, put-absent, put-there, remove-unshaped, remove-absent, remove-there}
+use Rattle.map.proofs.Drains.{meeting, by-met, by-drain, peek-stops, peek-nothing, peek-meets, drain-stops, drain-nothing, drain-meets}
+use Rattle.map.proofs.Ways.{Way, unshaped, null, at-zero, too-far, same, under, over, vacant, crowded, new, new-crowded, way, outBy, insert-number, version-some}
 
 -- a fact of a call's outcome, from the equation of the outcome
 to : (P : Out → Type 0) {o q : Out} → o ≡ q → P q → P o

@@ -6,7 +6,7 @@ use Prim.Native.Nat.{ℕ, _≤_}
 use native.Mathlib.Omega.{arith}
 use lib.ListN.{length}
 use Rattle.lists.proofs.Tests.{tests, parts}
-use Rattle.secondary.specs.Map.{Map, limit, lengthsFit, hasShape}
+use Rattle.map.specs.Map.{Map, limit, lengthsFit, hasShape}
 
 pub record Fits (vs xs : List ℕ) : Type 0 where
   pub some : 1 ≤ length vs

@@ -9,9 +9,9 @@ use Rattle.lists.specs.Put.{put}
 use Rattle.keys.specs.Keys.{idx, version, asRead}
 use Rattle.rules.specs.declared.Rule.{Rule}
 use Rattle.rules.specs.Rules.{keepsOf}
-use Rattle.secondary.specs.Map.{Map, val, isOccupied, hasShape, emptied}
-use Rattle.secondary.specs.Calls.{said-done, refused, Out, Judged, found, fails, slotIn, drain}
-use Rattle.secondary.specs.Whole.{isWhole}
+use Rattle.map.specs.Map.{Map, val, isOccupied, hasShape, emptied}
+use Rattle.map.specs.Calls.{said-done, refused, Out, Judged, found, fails, slotIn, drain}
+use Rattle.map.specs.Whole.{isWhole}
 
 -- ---- retain and clear: "asks for the whole check, else 5"; they answer only the new header
 

@@ -10,14 +10,14 @@ use lib.ListN.{length}
 use borrow.Author.Tests.{eq-eqb, ne-eqb}
 use Rattle.lists.proofs.Tests.{split}
 use Rattle.keys.specs.Keys.{W}
-use Rattle.secondary.specs.Map.{Map, ver, val, emptied}
-use Rattle.secondary.specs.Calls.{Out, remove, keyAt}
-use Rattle.secondary.specs.Whole.{Whole}
-use Rattle.secondary.specs.Sweeps.{sieved, retaining}
-use Rattle.secondary.proofs.Shaped.{shaped}
-use Rattle.secondary.proofs.Slots.{emptied-at, emptied-off, emptied-values, emptied-slots, emptied-length}
-use Rattle.secondary.proofs.Keeps.{whole-emptied}
-use Rattle.secondary.proofs.Elements.{remove-element}
+use Rattle.map.specs.Map.{Map, ver, val, emptied}
+use Rattle.map.specs.Calls.{Out, remove, keyAt}
+use Rattle.map.specs.Whole.{Whole}
+use Rattle.map.specs.Sweeps.{sieved, retaining}
+use Rattle.map.proofs.Shaped.{shaped}
+use Rattle.map.proofs.Slots.{emptied-at, emptied-off, emptied-values, emptied-slots, emptied-length}
+use Rattle.map.proofs.Keeps.{whole-emptied}
+use Rattle.map.proofs.Elements.{remove-element}
 
 -- the version that a slot has afterwards
 abbrev pub sifted : (ℕ → ℕ → Bool) → ℕ → Map → ℕ

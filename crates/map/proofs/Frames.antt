@@ -8,12 +8,12 @@ use native.Mathlib.Omega.{arith}
 use native.Mathlib.Decide.{ℕ-discrete}
 use lib.ListN.{getD}
 use Rattle.keys.specs.Keys.{idx, version, keyOf}
-use Rattle.secondary.specs.Map.{Map, ver, val, grown, withValue, emptied}
-use Rattle.secondary.specs.Calls.{refused, Out, put, insert, remove}
-use Rattle.secondary.proofs.Cases.{by-slot, put-unshaped, put-absent, put-there, remove-unshaped, remove-absent, remove-there, remove-uncounted}
-use Rattle.secondary.proofs.Slots.{emptied-off, emptied-values, emptied-slots, valued-off, valued-versions, valued-head, stored-off, stored-others, grown-old, grown-past, grown-values}
-use Rattle.secondary.proofs.Ways.{Way, unshaped, null, at-zero, too-far, same, under, over, vacant, crowded, new, new-crowded, way, outBy, insert-number}
-use Rattle.secondary.proofs.Lookups.{answer, after}
+use Rattle.map.specs.Map.{Map, ver, val, grown, withValue, emptied}
+use Rattle.map.specs.Calls.{refused, Out, put, insert, remove}
+use Rattle.map.proofs.Cases.{by-slot, put-unshaped, put-absent, put-there, remove-unshaped, remove-absent, remove-there, remove-uncounted}
+use Rattle.map.proofs.Slots.{emptied-off, emptied-values, emptied-slots, valued-off, valued-versions, valued-head, stored-off, stored-others, grown-old, grown-past, grown-values}
+use Rattle.map.proofs.Ways.{Way, unshaped, null, at-zero, too-far, same, under, over, vacant, crowded, new, new-crowded, way, outBy, insert-number}
+use Rattle.map.proofs.Lookups.{answer, after}
 
 -- ---- put and remove leave the map as it is, or change one slot
 

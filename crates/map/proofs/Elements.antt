@@ -7,12 +7,12 @@ use native.Mathlib.Omega.{arith}
 use Rattle.keys.specs.Keys.{W, idx, version, odd, pack}
 use Rattle.keys.proofs.Keys.{idx-pack, version-pack}
 use Rattle.keys.proofs.Versions.{odd-same}
-use Rattle.secondary.specs.Map.{Map, ver, val, isThere, emptied}
-use Rattle.secondary.specs.Calls.{said-value, lookup, remove, keyAt}
-use Rattle.secondary.specs.Whole.{Whole}
-use Rattle.secondary.proofs.Shaped.{shaped}
-use Rattle.secondary.proofs.Keeps.{whole-some}
-use Rattle.secondary.proofs.Cases.{there-true, lookup-there, remove-there}
+use Rattle.map.specs.Map.{Map, ver, val, isThere, emptied}
+use Rattle.map.specs.Calls.{said-value, lookup, remove, keyAt}
+use Rattle.map.specs.Whole.{Whole}
+use Rattle.map.proofs.Shaped.{shaped}
+use Rattle.map.proofs.Keeps.{whole-some}
+use Rattle.map.proofs.Cases.{there-true, lookup-there, remove-there}
 
 -- versions are 32-bit numbers, as in every lent array
 module _ (m : Map) (w : Whole m) (i : ℕ) (l : i < m .head .s) (ne : ver m i ≢ 0) (word : ver m i < W) where

@@ -7,7 +7,7 @@ use lib.ListN.{length, getD, set, replicate, length-replicate, getD-replicate}
 use borrow.Author.Tests.{lt-ltb, le-ltb}
 use Rattle.lists.specs.Put.{put}
 use Rattle.lists.proofs.Put.{put-nil, put-cons, getD-put-in}
-use Rattle.secondary.specs.Map.{Map, ver, grownHead, grown}
+use Rattle.map.specs.Map.{Map, ver, grownHead, grown}
 
 -- ---- slots made vacant from slot i to slot e: a turn of the loop, and its end
 

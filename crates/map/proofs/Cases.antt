@@ -6,8 +6,8 @@ use Prim.Native.Nat.{ℕ, _<_}
 use borrow.Author.Tests.{eq-eqb, ne-eqb, lt-ltb}
 use Rattle.lists.proofs.Tests.{split, parts, and-true}
 use Rattle.keys.specs.Keys.{idx, version}
-use Rattle.secondary.specs.Map.{Map, ver, val, hasShape, isThere, absent, withValue, emptied}
-use Rattle.secondary.specs.Calls.{said-value, refused, found, fails, slotIn, slot, lookup, put, leavingFrom, leaving, remove}
+use Rattle.map.specs.Map.{Map, ver, val, hasShape, isThere, absent, withValue, emptied}
+use Rattle.map.specs.Calls.{said-value, refused, found, fails, slotIn, slot, lookup, put, leavingFrom, leaving, remove}
 
 -- a key that is there
 pub record There (m : Map) (i v : ℕ) : Type 0 where

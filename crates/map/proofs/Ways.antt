@@ -13,11 +13,11 @@ use Rattle.lists.proofs.Tests.{split, true-false}
 use Rattle.keys.specs.Keys.{isNull, keyOf, version}
 use Rattle.keys.specs.declared.KeyData.{KeyData}
 use Rattle.keys.proofs.Keys.{version-odd}
-use Rattle.secondary.specs.Map.{Map, ver, val, hasShape, older, grown, withValue, stored}
-use Rattle.secondary.specs.Calls.{said-ignored, said-replaced, said-kept, said-stored, refused, Out, Fate, ignores, replaces, keeps, stores, bars, settled, fate, fated, insertKey, insert}
-use Rattle.secondary.proofs.Shaped.{Shaped, shaped}
-use Rattle.secondary.proofs.Grown.{grown-below}
-use Rattle.secondary.proofs.Fates.{fate-unshaped, fate-null, fate-zero, fate-far, fate-below, fate-above}
+use Rattle.map.specs.Map.{Map, ver, val, hasShape, older, grown, withValue, stored}
+use Rattle.map.specs.Calls.{said-ignored, said-replaced, said-kept, said-stored, refused, Out, Fate, ignores, replaces, keeps, stores, bars, settled, fate, fated, insertKey, insert}
+use Rattle.map.proofs.Shaped.{Shaped, shaped}
+use Rattle.map.proofs.Grown.{grown-below}
+use Rattle.map.proofs.Fates.{fate-unshaped, fate-null, fate-zero, fate-far, fate-below, fate-above}
 
 -- ---- the ways
 

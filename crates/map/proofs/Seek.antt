@@ -9,8 +9,8 @@ use native.Mathlib.Decide.{ℕ-discrete}
 use lib.Dec.{eqb}
 use borrow.Author.Tests.{eqb-true, eqb-false, eq-eqb, ne-eqb}
 use Rattle.lists.proofs.Tests.{split}
-use Rattle.secondary.specs.Map.{Map, ver}
-use Rattle.secondary.specs.Calls.{seek, ahead}
+use Rattle.map.specs.Map.{Map, ver}
+use Rattle.map.specs.Calls.{seek, ahead}
 
 module _ (vs : List ℕ) (s i : ℕ) where
   -- one slot is looked at, and then the rest

@@ -15,7 +15,7 @@ use Prim.Native.Nat.{ℕ, _+_, _-_}
 use lib.Dec.{leb, ltb, eqb}
 use lib.ListN.{length, getD, set, replicate}
 use Rattle.lists.specs.Put.{put}
-use Rattle.secondary.specs.declared.MapHeader.{MapHeader}
+use Rattle.map.specs.declared.MapHeader.{MapHeader}
 
 -- "lent versions and values", and the header: "slot count s .., element count"
 pub record Map : Type 0 where

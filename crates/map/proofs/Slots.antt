@@ -8,9 +8,9 @@ use native.Mathlib.Decide.{decLt}
 use lib.ListN.{length, replicate, length-set, length-replicate}
 use lib.Seq.{getD-set-same, getD-set-other}
 use Rattle.lists.proofs.Put.{length-put, getD-put-before, getD-put-after}
-use Rattle.secondary.specs.Map.{Map, ver, val, hasShape, grown, withValue, stored, emptied}
-use Rattle.secondary.proofs.Shaped.{shaped, shape-true}
-use Rattle.secondary.proofs.Grown.{grown-below, grown-above}
+use Rattle.map.specs.Map.{Map, ver, val, hasShape, grown, withValue, stored, emptied}
+use Rattle.map.proofs.Shaped.{shaped, shape-true}
+use Rattle.map.proofs.Grown.{grown-below, grown-above}
 
 -- ---- a slot emptied
 

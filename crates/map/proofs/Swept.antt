@@ -13,19 +13,19 @@ use Rattle.lists.proofs.Tests.{split, false-if}
 use Rattle.keys.specs.Keys.{idx, version}
 use Rattle.rules.specs.declared.Rule.{Rule}
 use Rattle.rules.specs.Rules.{keepsOf}
-use Rattle.secondary.specs.Map.{Map, ver, val, isOccupied, lengthsFit, hasShape, isThere}
-use Rattle.secondary.specs.Calls.{said-value, said-count, said-done, freshMap, len, lookup, ahead, drain}
-use Rattle.secondary.specs.Whole.{Whole, isWhole}
-use Rattle.secondary.specs.Sweeps.{asked, retaining, retain, clearing, clear}
-use Rattle.secondary.proofs.Whole.{whole-passes}
-use Rattle.secondary.proofs.Cases.{there, there-true, lookup-absent, lookup-there}
-use Rattle.secondary.proofs.Seek.{ahead-occupied}
-use Rattle.secondary.proofs.Drains.{none-ahead, drain-nothing}
-use Rattle.secondary.proofs.Ways.{version-some}
-use Rattle.secondary.proofs.Wholes.{whole-fresh-map}
-use Rattle.secondary.proofs.Lookups.{gone, gone-same, answer, after, lookup-has, has-lookup}
-use Rattle.secondary.proofs.Sieves.{whole-retaining, retaining-slots, retaining-values, retaining-at}
-use Rattle.secondary.proofs.Clears.{clearing-slots, clearing-values, whole-clearing, cleared-vacant}
+use Rattle.map.specs.Map.{Map, ver, val, isOccupied, lengthsFit, hasShape, isThere}
+use Rattle.map.specs.Calls.{said-value, said-count, said-done, freshMap, len, lookup, ahead, drain}
+use Rattle.map.specs.Whole.{Whole, isWhole}
+use Rattle.map.specs.Sweeps.{asked, retaining, retain, clearing, clear}
+use Rattle.map.proofs.Whole.{whole-passes}
+use Rattle.map.proofs.Cases.{there, there-true, lookup-absent, lookup-there}
+use Rattle.map.proofs.Seek.{ahead-occupied}
+use Rattle.map.proofs.Drains.{none-ahead, drain-nothing}
+use Rattle.map.proofs.Ways.{version-some}
+use Rattle.map.proofs.Wholes.{whole-fresh-map}
+use Rattle.map.proofs.Lookups.{gone, gone-same, answer, after, lookup-has, has-lookup}
+use Rattle.map.proofs.Sieves.{whole-retaining, retaining-slots, retaining-values, retaining-at}
+use Rattle.map.proofs.Clears.{clearing-slots, clearing-values, whole-clearing, cleared-vacant}
 
 -- ---- the count
 

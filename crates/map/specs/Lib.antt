@@ -1,0 +1,4 @@
+pub mod Map
+pub mod Calls
+pub mod Whole
+pub mod Sweeps
