@@ -114,7 +114,7 @@ fn call_ask(
     e: u64,
 ) -> Said {
     if kind < 13 {
-        return got(secondary_edit::put(h, versions, values, k, value(d)));
+        return got(secondary_enter::put(h, versions, values, k, value(d)));
     }
     if kind < 15 {
         return call_disjoint(h, versions, values, k, e);
@@ -131,16 +131,16 @@ fn call_edit(
     d: u64,
 ) -> After {
     if kind < 5 {
-        return inserted(secondary_edit::insert(h, versions, values, k, value(d)));
+        return inserted(secondary_enter::insert(h, versions, values, k, value(d)));
     }
     if kind < 7 {
-        return removed(secondary_edit::remove(h, versions, values, k));
+        return removed(secondary_leave::remove(h, versions, values, k));
     }
     if kind < 9 {
         return sweep(secondary_sweep::retain(h, versions, values, rule(d)));
     }
     if kind < 11 {
-        return drained(secondary_edit::drain_step(h, versions, values, place(d)));
+        return drained(secondary_leave::drain_step(h, versions, values, place(d)));
     }
     sweep(secondary_sweep::clear(h, versions, values))
 }

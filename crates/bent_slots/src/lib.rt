@@ -23,11 +23,11 @@ use secondary::Got;
 use secondary::Length;
 use secondary::Step;
 use secondary::Truth;
-use secondary_edit::Begun;
-use secondary_edit::Drained;
-use secondary_edit::Inserted;
-use secondary_edit::Insertion;
-use secondary_edit::Removal;
+use secondary_enter::Begun;
+use secondary_enter::Inserted;
+use secondary_enter::Insertion;
+use secondary_leave::Drained;
+use secondary_leave::Removal;
 use secondary_sweep::Sweep;
 use secondary_sweep::Swept;
 
@@ -148,7 +148,7 @@ pub fn start(versions: &mut [u32], values: &mut [u64], e: u64) -> MapHeader {
     if (d >> 8) % 12 == 0 {
         return wild_header(versions.len(), d);
     }
-    begun(secondary_edit::fresh(versions, values))
+    begun(secondary_enter::fresh(versions, values))
 }
 
 fn bent_version(version: u32, x: u32, k: u64) -> u32 {

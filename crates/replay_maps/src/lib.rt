@@ -17,8 +17,8 @@ use secondary::Got;
 use secondary::Length;
 use secondary::Step;
 use secondary::Truth;
-use secondary_edit::Begun;
-use secondary_edit::Inserted;
+use secondary_enter::Begun;
+use secondary_enter::Inserted;
 use secondary_sweep::Swept;
 
 // What a call leaves: the header and the answer.
@@ -124,7 +124,7 @@ pub fn look(
 }
 
 pub fn fresh(h: MapHeader, versions: &mut [u32], values: &[u64]) -> Made {
-    match secondary_edit::fresh(versions, values) {
+    match secondary_enter::fresh(versions, values) {
         Begun::Header(g) => Made {
             header: g,
             answer: Answer::of(DONE, 0),
@@ -145,13 +145,13 @@ pub fn enter(
     x: u64,
 ) -> Made {
     if puts {
-        let old = secondary_edit::put(h, versions, values, k, x);
+        let old = secondary_enter::put(h, versions, values, k, x);
         return Made {
             header: h,
             answer: value(old),
         };
     }
-    let r = secondary_edit::insert(h, versions, values, k, x);
+    let r = secondary_enter::insert(h, versions, values, k, x);
     let g = r.header;
     let insert = r.answer;
     Made {
@@ -161,7 +161,7 @@ pub fn enter(
 }
 
 pub fn remove(h: MapHeader, versions: &mut [u32], values: &[u64], k: u64) -> Made {
-    let r = secondary_edit::remove(h, versions, values, k);
+    let r = secondary_leave::remove(h, versions, values, k);
     let g = r.header;
     let old = r.answer;
     Made {
@@ -171,7 +171,7 @@ pub fn remove(h: MapHeader, versions: &mut [u32], values: &[u64], k: u64) -> Mad
 }
 
 pub fn drain(h: MapHeader, versions: &mut [u32], values: &[u64], place: u64) -> Made {
-    let r = secondary_edit::drain_step(h, versions, values, narrow(place));
+    let r = secondary_leave::drain_step(h, versions, values, narrow(place));
     let g = r.header;
     let step = r.answer;
     Made {

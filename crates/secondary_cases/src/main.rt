@@ -5,8 +5,8 @@ use map::MapHeader;
 use rules::Rule;
 use secondary::is_whole;
 use secondary::lookup;
-use secondary_edit::fresh;
-use secondary_edit::put;
+use secondary_enter::fresh;
+use secondary_enter::put;
 use secondary_sweep::disjoint;
 
 // The number of a key: the version's lowest bit is as given.

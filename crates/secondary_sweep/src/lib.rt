@@ -44,7 +44,7 @@ fn sieve(h: MapHeader, versions: &mut [u32], values: &[u64], rule: Rule, i: usiz
     if rules::keeps(rule, key.idx, values[i]) {
         return h;
     }
-    let d = secondary_edit::remove(h, versions, values, key.as_ffi());
+    let d = secondary_leave::remove(h, versions, values, key.as_ffi());
     d.header
 }
 
@@ -93,7 +93,7 @@ fn drain_all(h: MapHeader, versions: &mut [u32], values: &[u64]) -> MapHeader
     let mut g = h;
     let mut place: u32 = 0;
     loop {
-        let d = secondary_edit::drain_step(g, versions, values, place);
+        let d = secondary_leave::drain_step(g, versions, values, place);
         let a = d.answer;
         match a {
             Step::Element {

@@ -7,8 +7,8 @@ use map::MapHeader;
 use rules::Rule;
 use secondary::Got;
 use secondary::Step;
-use secondary_edit::Begun;
-use secondary_edit::Inserted;
+use secondary_enter::Begun;
+use secondary_enter::Inserted;
 use secondary_sweep::Swept;
 
 pub fn header(h: MapHeader) {
@@ -80,7 +80,7 @@ fn element(key: u64, value: u64, next: u32) {
 pub fn insert(h: MapHeader, versions: &mut [u32], values: &mut [u64], k: u64, x: u64) -> MapHeader
     ensures { λ r. ⌜ after versions values r ≡ (insert (before versions values h) k x) .1 ⌝ }
 {
-    let r = secondary_edit::insert(h, versions, values, k, x);
+    let r = secondary_enter::insert(h, versions, values, k, x);
     let answer = r.answer;
     stored(answer);
     r.header
@@ -89,7 +89,7 @@ pub fn insert(h: MapHeader, versions: &mut [u32], values: &mut [u64], k: u64, x:
 pub fn remove(h: MapHeader, versions: &mut [u32], values: &[u64], k: u64) -> MapHeader
     ensures { λ r. ⌜ after versions values r ≡ (remove (before versions values h) k) .1 ⌝ }
 {
-    let r = secondary_edit::remove(h, versions, values, k);
+    let r = secondary_leave::remove(h, versions, values, k);
     let answer = r.answer;
     got(answer);
     r.header
@@ -98,7 +98,7 @@ pub fn remove(h: MapHeader, versions: &mut [u32], values: &[u64], k: u64) -> Map
 pub fn drain_step(h: MapHeader, versions: &mut [u32], values: &[u64], place: u32) -> MapHeader
     ensures { λ r. ⌜ after versions values r ≡ (drain (before versions values h) place) .1 ⌝ }
 {
-    let r = secondary_edit::drain_step(h, versions, values, place);
+    let r = secondary_leave::drain_step(h, versions, values, place);
     let answer = r.answer;
     stepped(answer);
     r.header

@@ -3,7 +3,7 @@ use mathlib.Core.Path.{sym}
 use native.Mathlib.Omega.{arith}
 use lib.Seq.{length-take-le}
 use borrow.Author.Needs.{needs}
-use Rattle.script_feed.proofs.Steps.{ends-within, closes, closes-always}
+use Rattle.script_input.proofs.Steps.{ends-within, closes, closes-always}
 use Rattle.script_feed.proofs.close.Statement.{statement}
 use Rattle.script_feed.proofs.close.Tie as tie
 

@@ -6,8 +6,8 @@ use lib.ListN.{length}
 use borrow.Author.Needs.{needs}
 use Rattle.lists.proofs.Tests.{refuted, confirmed}
 use Rattle.dense.specs.Lent.{table}
-use Rattle.script_feed.specs.Machine.{machine, ending}
-use Rattle.script_feed.proofs.Steps.{fed-short, fed-ready, Feeding, feeding-start, feeding-ready, feeding-turn, feeding-end}
+use Rattle.script_input.specs.Machine.{machine, ending}
+use Rattle.script_input.proofs.Steps.{fed-short, fed-ready, Feeding, feeding-start, feeding-ready, feeding-turn, feeding-end}
 use Rattle.script_feed.proofs.feed.Statement.{statement}
 use Rattle.script_feed.proofs.feed.Tie as tie
 

@@ -2,8 +2,8 @@
 use mathlib.Core.Path.{ap, _∙_}
 use borrow.Author.Needs.{needs}
 use Rattle.lists.proofs.Tests.{refuted, confirmed}
-use Rattle.script_feed.specs.Machine.{ending}
-use Rattle.script_feed.proofs.Steps.{finished-short, finished-empty, finished-line, finished-ready}
+use Rattle.script_input.specs.Machine.{ending}
+use Rattle.script_input.proofs.Steps.{finished-short, finished-empty, finished-line, finished-ready}
 use Rattle.script_feed.proofs.finish.Statement.{statement}
 use Rattle.script_feed.proofs.finish.Tie as tie
 

@@ -1,5 +1,5 @@
 -- `ready` judges one thing after the other. Assumes nothing.
-use Rattle.script_feed.proofs.Steps.{ready-line, ready-count, ready-room}
+use Rattle.script_input.proofs.Steps.{ready-line, ready-count, ready-room}
 use Rattle.script_feed.proofs.ready.Statement.{statement}
 use Rattle.script_feed.proofs.ready.Tie as tie
 

@@ -2,7 +2,7 @@
 use mathlib.Core.Path.{_∙_}
 use native.Mathlib.Omega.{arith}
 use borrow.Author.Needs.{needs}
-use Rattle.script_feed.proofs.Steps.{took-newline, took-held, took-past}
+use Rattle.script_input.proofs.Steps.{took-newline, took-held, took-past}
 use Rattle.script_feed.proofs.take_byte.Statement.{statement}
 use Rattle.script_feed.proofs.take_byte.Tie as tie
 
