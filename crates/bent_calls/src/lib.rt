@@ -112,7 +112,7 @@ fn call_look(
         return tested(dense::contains_key(h, versions, links, keys, values, k));
     }
     if kind == 22 {
-        return issued(dense::next_key(h, versions, links, keys, values));
+        return issued(dense_next::next_key(h, versions, links, keys, values));
     }
     if kind == 23 {
         return counted(dense::len(h, versions, links, keys, values));
@@ -167,5 +167,5 @@ pub fn call_edit(
     if kind < 7 {
         return removed(dense_leave::detach(h, versions, links, keys, values, k));
     }
-    changed(dense_enter::reattach(h, versions, links, keys, values, k, x))
+    changed(dense_reattach::reattach(h, versions, links, keys, values, k, x))
 }

@@ -68,7 +68,7 @@ fn disjoint_in(
     if m > wanted.len() || o > out.len() {
         return accepted(0);
     }
-    swept(secondary_sweep::disjoint(h, versions, values, &wanted[..m], &mut out[..o]))
+    swept(secondary_disjoint::disjoint(h, versions, values, &wanted[..m], &mut out[..o]))
 }
 
 fn call_disjoint(h: MapHeader, versions: &mut [u32], values: &[u64], k: u64, e: u64) -> Said {

@@ -3,27 +3,15 @@ use mathlib.Core.Path.{_≡_, refl}
 use mathlib.Core.List.{List, [], _∷_}
 use Prim.Native.Nat.{ℕ, _+_, _≤_, _<_}
 use native.Mathlib.Omega.{arith}
-use lib.ListN.{length, getD, List·getD-eq-default}
+use lib.ListN.{length, getD}
 use borrow.Author.Tests.{lt-ltb, le-ltb, eq-eqb, ne-eqb}
 use Rattle.keys.specs.Keys.{pack}
 use Rattle.table.specs.Steps.{c-lookup, c-remove, c-detach}
-use Rattle.commands.specs.declared.Number.the-variants.{Is, Wrong}
-use Rattle.commands.specs.Lines.{Asked, asks, asks-len, misread, numberAt, fieldAt, keyIn, most32, most64, ended, insertOf, reattachOf, plainOf, keyedOf, longest, asked}
+use Rattle.fields.specs.declared.Number.the-variants.{Is, Wrong}
+use Rattle.fields.specs.Fields.{fieldAt}
+use Rattle.commands.specs.Lines.{Asked, asks, asks-len, misread, keyIn, most32, most64, ended, insertOf, reattachOf, plainOf, keyedOf, longest, asked}
 
--- ---- a number after a space, and a key
-
-module _ (limit : ℕ) (line : List ℕ) (at : ℕ) where
-  pub field-past : length line ≤ at → Wrong ≡ fieldAt limit line at
-  unfolding fieldAt
-  field-past h = rw (List·getD-eq-default line 0 h)
-
-  pub field-space : getD line at 0 ≡ 32 → numberAt limit line (at + 1) ≡ fieldAt limit line at
-  unfolding fieldAt
-  field-space e = rw (eq-eqb (getD line at 0) 32 e)
-
-  pub field-other : (getD line at 0 ≡ 32 → ⊥) → Wrong ≡ fieldAt limit line at
-  unfolding fieldAt
-  field-other f = rw (ne-eqb (getD line at 0) 32 f)
+-- ---- a key
 
 module _ (line : List ℕ) where
   pub key-none : fieldAt most32 line 1 ≡ Wrong → Wrong ≡ keyIn line

@@ -18,12 +18,14 @@ use Rattle.keys.proofs.Keys.{idx-pack, vsn-pack}
 use Rattle.text.specs.Text.{decimal, digitOf}
 use Rattle.text.proofs.Decimal.{length-decimal-64}
 use Rattle.table.specs.Steps.{c-lookup, c-put, c-insert, c-remove, c-detach, c-reattach, c-drain, c-retain, c-clear}
-use Rattle.commands.specs.declared.Number.{Number}
-use Rattle.commands.specs.declared.Number.the-variants.{Is, Wrong}
-use Rattle.commands.specs.Lines.{Asked, asks, asks-len, rejects, misread, fieldAt, keyIn, most32, most64, indexAfter, versionAfter, ended, insertOf, reattachOf, plainOf, keyedOf, longest, asked, keyWords, lineText, isCommand}
-use Rattle.commands.proofs.Numbers.{field-small}
-use Rattle.commands.proofs.Lines.{field-space, key-whole, ended-yes, asked-i, asked-key, keyed-plain}
-use Rattle.commands.proofs.Decimals.{number-read, number-written}
+use Rattle.fields.specs.declared.Number.{Number}
+use Rattle.fields.specs.declared.Number.the-variants.{Is, Wrong}
+use Rattle.commands.specs.Lines.{Asked, asks, asks-len, rejects, misread, keyIn, most32, most64, indexAfter, versionAfter, ended, insertOf, reattachOf, plainOf, keyedOf, longest, asked, keyWords, lineText, isCommand}
+use Rattle.fields.proofs.Numbers.{field-small}
+use Rattle.fields.specs.Fields.{fieldAt}
+use Rattle.fields.proofs.Fields.{field-space}
+use Rattle.commands.proofs.Lines.{key-whole, ended-yes, asked-i, asked-key, keyed-plain}
+use Rattle.fields.proofs.Decimals.{number-read, number-written}
 
 -- ---- what is understood is a command's text
 

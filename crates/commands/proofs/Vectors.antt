@@ -3,7 +3,8 @@ use mathlib.Core.Path.{_≡_, refl}
 use mathlib.Core.List.{[], _∷_}
 use Rattle.table.specs.Steps.{c-lookup, c-insert, c-remove, c-reattach}
 use Rattle.text.specs.Text.{digitOf}
-use Rattle.commands.specs.Lines.{asks, asks-len, misread, numberAt, fieldAt, keyIn, asked}
+use Rattle.fields.specs.Fields.{numberAt, fieldAt}
+use Rattle.commands.specs.Lines.{asks, asks-len, misread, keyIn, asked}
 
 -- `i 300`
 insert : asked (105 ∷ 32 ∷ 51 ∷ 48 ∷ 48 ∷ []) ≡ asks (c-insert 300)

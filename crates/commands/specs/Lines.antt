@@ -1,15 +1,16 @@
 -- Lines of a script, and what each asks for (the rules, section "Script"). Bytes are ASCII. Assumes nothing.
-use Prim.Native.Nat.{ℕ, suc, _+_}
+use Prim.Native.Nat.{ℕ}
 use mathlib.Core.Bool.{Bool, false, true, cond, _&&_}
 use mathlib.Core.List.{List, [], _∷_, _++_}
-use lib.ListN.{length, drop, getD}
+use lib.ListN.{length, getD}
 use lib.Dec.{leb, ltb, eqb}
 use Rattle.keys.specs.Keys.{idx, vsn, pack}
 use Rattle.refusal.specs.Refusals.{numberOf}
-use Rattle.text.specs.Text.{decimal, digitOf, valueOf}
+use Rattle.text.specs.Text.{decimal}
+use Rattle.fields.specs.declared.Number.{Number}
+use Rattle.fields.specs.declared.Number.the-variants.{Is, Wrong}
+use Rattle.fields.specs.Fields.{fieldAt}
 use Rattle.table.specs.Steps.{Call, c-lookup, c-put, c-insert, c-remove, c-detach, c-reattach, c-drain, c-retain, c-clear}
-use Rattle.commands.specs.declared.Number.{Number}
-use Rattle.commands.specs.declared.Number.the-variants.{Is, Wrong}
 use Rattle.commands.specs.declared.Command.{Command}
 use Rattle.commands.specs.declared.Command.the-variants.{Insert, Get, Remove, Detach, Reattach, Len, Refused}
 
@@ -33,26 +34,7 @@ askedOf (Refused r) = rejects (numberOf r)
 abbrev pub misread : Asked
 misread = rejects 17
 
--- ---- numbers in a line
-
--- how many digits stand at the front of a text
-abbrev pub digitsIn : List ℕ → ℕ
-digitsIn [] = 0
-digitsIn (b ∷ t) = cond (ltb (digitOf b) 10) (suc (digitsIn t)) 0
-
--- so many digits at a place, with this value, of which the first is given: no number if "above its width", if there is none, or for
--- "a leading zero before a digit"; else the value, and the place after the digits
-abbrev pub judged : ℕ → ℕ → ℕ → ℕ → ℕ → Number
-judged limit at count value first =
-    cond (ltb limit value) Wrong (cond (eqb count 0) Wrong (cond (eqb first 0 && ltb 1 count) Wrong (Is value (at + count))))
-
--- the number at a place of a line
-unfoldable pub numberAt : ℕ → List ℕ → ℕ → Number
-numberAt limit line at = judged limit at (digitsIn (drop at line)) (valueOf (drop at line)) (digitOf (getD line at 0))
-
--- "single spaces": a space at a place, and a number after it
-unfoldable pub fieldAt : ℕ → List ℕ → ℕ → Number
-fieldAt limit line at = cond (eqb (getD line at 0) 32) (numberAt limit line (at + 1)) Wrong
+-- ---- the key of a line
 
 -- the widths: "V 64 bits, the others 32"
 abbrev pub most32 : ℕ

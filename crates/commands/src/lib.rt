@@ -1,8 +1,9 @@
-// The lines of a script: what a line of bytes asks for. Numbers are read up to a limit, so one reader serves both widths.
+// The lines of a script: what a line of bytes asks for.
 ghost use mathlib.Core.Path.{_≡_};
-ghost use lib.ListN.{getD};
-ghost use Rattle.text.specs.Text.{digitOf};
-ghost use Rattle.commands.specs.Lines.{numberAt, fieldAt, keyIn, plainOf, askedOf, asked};
+ghost use Rattle.fields.specs.Fields.{fieldAt};
+ghost use Rattle.commands.specs.Lines.{most64, keyIn, insertOf, reattachOf, plainOf, keyedOf, askedOf, asked};
+use fields::Number;
+use fields::field;
 use keys::KeyData;
 use refusal::Refusal;
 
@@ -24,73 +25,6 @@ pub enum Command {
     Len,
     // The line is not understood: refusal 17.
     Refused(Refusal),
-}
-
-// What stands at a place of a line: a number and the place after it, or none.
-enum Number {
-    Is(u64, usize),
-    Wrong,
-}
-
-// The digit at a place of a line; 10 where there is none.
-fn digit_at(line: &[u8], i: usize) -> u64
-    ensures { λ r. ⌜ r ≡ digitOf (getD (now (line .entry)) i 0) ⌝ }
-{
-    if line.len() <= i {
-        return 10;
-    }
-    let b = line[i];
-    if b < b'0' {
-        return 10;
-    }
-    if b'9' < b {
-        return 10;
-    }
-    (b - b'0') as u64
-}
-
-// The number at a place of a line, up to a limit.
-fn number_at(line: &[u8], at: usize, limit: u64) -> Number
-    ensures { λ r. ⌜ r ≡ numberAt limit (now (line .entry)) at ⌝ }
-{
-    let first = digit_at(line, at);
-    let mut d = first;
-    let mut i = at;
-    let mut v: u64 = 0;
-    while d < 10 {
-        if limit < d {
-            return Number::Wrong;
-        }
-        if (limit - d) / 10 < v {
-            return Number::Wrong;
-        }
-        v = v * 10 + d;
-        i += 1;
-        d = digit_at(line, i);
-    }
-    if i == at {
-        return Number::Wrong;
-    }
-    if first == 0 {
-        if 1 < i - at {
-            return Number::Wrong;
-        }
-    }
-    Number::Is(v, i)
-}
-
-// A space at a place of a line, and a number after it.
-fn field(line: &[u8], at: usize, limit: u64) -> Number
-    ensures { λ r. ⌜ r ≡ fieldAt limit (now (line .entry)) at ⌝ }
-{
-    if line.len() <= at {
-        return Number::Wrong;
-    }
-    if line[at] == b' ' {
-        number_at(line, at + 1, limit)
-    } else {
-        Number::Wrong
-    }
 }
 
 // The key after a line's letter: an index and a version.
@@ -128,6 +62,54 @@ fn plain(letter: u8, key: u64) -> Command
     Command::Refused(Refusal::Line)
 }
 
+// `i V`.
+fn insert_of(line: &[u8]) -> Command
+    ensures { λ r. ⌜ askedOf r ≡ insertOf (now (line .entry)) (fieldAt most64 (now (line .entry)) 1) ⌝ }
+{
+    match field(line, 1, MOST_64) {
+        Number::Is(x, end) => {
+            if end == line.len() {
+                return Command::Insert(x);
+            }
+            Command::Refused(Refusal::Line)
+        }
+        Number::Wrong => Command::Refused(Refusal::Line),
+    }
+}
+
+// `a IDX VER V`, of which the key has been read up to a place.
+fn reattach_of(line: &[u8], k: u64, at: usize) -> Command
+    ensures { λ r. ⌜ askedOf r ≡ reattachOf (now (line .entry)) k (fieldAt most64 (now (line .entry)) at) ⌝ }
+{
+    match field(line, at, MOST_64) {
+        Number::Is(x, e) => {
+            if e == line.len() {
+                return Command::Reattach(k, x);
+            }
+            Command::Refused(Refusal::Line)
+        }
+        Number::Wrong => Command::Refused(Refusal::Line),
+    }
+}
+
+// A letter and what follows it, which begins with a key.
+fn keyed(line: &[u8], letter: u8) -> Command
+    ensures { λ r. ⌜ askedOf r ≡ keyedOf (now (line .entry)) letter (keyIn (now (line .entry))) ⌝ }
+{
+    match key_of(line) {
+        Number::Is(k, m) => {
+            if letter == b'a' {
+                return reattach_of(line, k, m);
+            }
+            if m == line.len() {
+                return plain(letter, k);
+            }
+            Command::Refused(Refusal::Line)
+        }
+        Number::Wrong => Command::Refused(Refusal::Line),
+    }
+}
+
 // The command of a line, without its newline.
 pub fn parse(line: &[u8]) -> Command
     ensures { λ r. ⌜ askedOf r ≡ asked (now (line .entry)) ⌝ }
@@ -147,36 +129,7 @@ pub fn parse(line: &[u8]) -> Command
         return Command::Refused(Refusal::Line);
     }
     if letter == b'i' {
-        return match field(line, 1, MOST_64) {
-            Number::Is(x, m) => {
-                if m == n {
-                    Command::Insert(x)
-                } else {
-                    Command::Refused(Refusal::Line)
-                }
-            }
-            Number::Wrong => Command::Refused(Refusal::Line),
-        };
+        return insert_of(line);
     }
-    match key_of(line) {
-        Number::Is(k, m) => {
-            if letter == b'a' {
-                match field(line, m, MOST_64) {
-                    Number::Is(x, e) => {
-                        if e == n {
-                            Command::Reattach(k, x)
-                        } else {
-                            Command::Refused(Refusal::Line)
-                        }
-                    }
-                    Number::Wrong => Command::Refused(Refusal::Line),
-                }
-            } else if m == n {
-                plain(letter, k)
-            } else {
-                Command::Refused(Refusal::Line)
-            }
-        }
-        Number::Wrong => Command::Refused(Refusal::Line),
-    }
+    keyed(line, letter)
 }

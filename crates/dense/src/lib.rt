@@ -4,12 +4,11 @@ ghost use mathlib.Core.List.{List};
 ghost use Prim.Native.Nat.{ℕ};
 ghost use Rattle.refusal.specs.Refusals.{numberOf};
 ghost use Rattle.table.specs.Table.{lengthsFit, hasShape, isLive, dead};
-ghost use Rattle.table.specs.Calls.{Begun, fresh, len, isEmpty, contains, listedKeys, listedValues, placeIn, place, lookup, nextIn, keySaid, nextKey};
+ghost use Rattle.table.specs.Calls.{Begun, fresh, len, isEmpty, contains, listedKeys, listedValues, placeIn, place, lookup};
 ghost use Rattle.dense.specs.Lent.{table, before};
-ghost use Rattle.dense.specs.Answers.{judgedOf, valueSaid, issuedSaid, countSaid, truthSaid, begunOf};
+ghost use Rattle.dense.specs.Answers.{judgedOf, valueSaid, countSaid, truthSaid, begunOf};
 ghost use Rattle.table.proofs.Shape.{Shape};
 use keys::KeyData;
-use keys::is_odd;
 use refusal::Refusal;
 use table::Header;
 
@@ -287,43 +286,4 @@ pub fn contains_key(
         return Tested::Refused(Refusal::Shape);
     }
     Tested::Truth(is_live(h, versions, links, keys, values, KeyData::from_ffi(k)))
-}
-
-// The key that an insert issues, on a table that has its shape.
-fn next_in(h: Header, versions: &[u32], links: &[u32], keys: &[u64], values: &[u64]) -> Issued
-    requires { ⌜ Shape (table (now versions) (now links) (now keys) (now values) h) ⌝ }
-    ensures { λ r. ⌜ issuedSaid r ≡ keySaid (nextIn (before versions links keys values h)) ⌝ }
-{
-    if h.f < h.s {
-        let f = h.f as usize;
-        let v = versions[f];
-        if is_odd(v) {
-            return Issued::Refused(Refusal::Damaged);
-        }
-        let link = links[f];
-        if link < 1 {
-            return Issued::Refused(Refusal::Damaged);
-        }
-        if h.s < link {
-            return Issued::Refused(Refusal::Damaged);
-        }
-        if h.s - 1 <= h.n {
-            return Issued::Refused(Refusal::Damaged);
-        }
-        return Issued::Key(KeyData::new(h.f, v).as_ffi());
-    }
-    if keys.len() < h.s as usize {
-        return Issued::Refused(Refusal::Full);
-    }
-    Issued::Key(KeyData::new(h.s, 1).as_ffi())
-}
-
-// The key that the next insert will answer, or the refusal that it will give.
-pub fn next_key(h: Header, versions: &[u32], links: &[u32], keys: &[u64], values: &[u64]) -> Issued
-    ensures { λ r. ⌜ issuedSaid r ≡ nextKey (before versions links keys values h) ⌝ }
-{
-    if !has_shape(h, versions, links, keys, values) {
-        return Issued::Refused(Refusal::Shape);
-    }
-    next_in(h, versions, links, keys, values)
 }

@@ -1,7 +1,7 @@
 // Situations of insert and reattach that are easy to get wrong, each run through the real arrays.
 // The remarks of standard input say what the rules give, one before each situation; the lines after a remark are what the calls answer.
 use dense::DETACHED;
-use dense::next_key;
+use dense_next::next_key;
 use dense_sound::is_sound;
 use keys::KeyData;
 use table::Header;

@@ -17,9 +17,9 @@ use Rattle.numbers.specs.Told.{Told, tells, refused}
 use Rattle.numbers.proofs.Told.{never, told, both}
 use Rattle.records.specs.declared.Record.{Record}
 use Rattle.records.specs.declared.Record.the-variants.{Vacant}
-use Rattle.records.specs.declared.Summary.{Summary}
+use Rattle.summaries.specs.declared.Summary.{Summary}
 use Rattle.records.specs.Records.{recordAt, recordsFrom}
-use Rattle.records.specs.Summaries.{summaryOf}
+use Rattle.summaries.specs.Summaries.{summaryOf}
 use Rattle.records.proofs.Images.{records-first}
 use Rattle.table.specs.Table.{Table, limit, lengthsFit}
 use Rattle.table.specs.Calls.{begins, cannot}

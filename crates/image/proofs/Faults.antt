@@ -12,9 +12,9 @@ use Rattle.lists.proofs.Tests.{split}
 use Rattle.numbers.specs.Told.{Told, tells, refused, onward}
 use Rattle.numbers.proofs.Told.{never, told, refused-same, both, by-answer, onward-same, onward-assoc}
 use Rattle.records.specs.declared.Record.{Record}
-use Rattle.records.specs.declared.Summary.{Summary}
+use Rattle.summaries.specs.declared.Summary.{Summary}
 use Rattle.records.specs.Records.{versionOf, presenceOf, recordsFrom, countOf, listOf, recordsOf}
-use Rattle.records.specs.Summaries.{wrongs, summaryOf, judgedFrom, judgedOf}
+use Rattle.summaries.specs.Summaries.{wrongs, summaryOf, judgedFrom, judgedOf}
 use Rattle.records.proofs.Records.{count-is}
 use Rattle.records.proofs.Images.{records-length, by-list}
 use Rattle.image.specs.Rebuild.{firstWrong, fitting, judgedImage, countsIn, judgedCounts}

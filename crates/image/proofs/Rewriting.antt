@@ -22,7 +22,7 @@ use Rattle.keys.proofs.Keys.{version-odd}
 use Rattle.records.specs.declared.Record.{Record}
 use Rattle.records.specs.declared.Record.the-variants.{Vacant, Occupied}
 use Rattle.records.specs.Records.{versionOf, presenceOf, recordsOf, bytesOf, Fit, FitAll}
-use Rattle.records.specs.Summaries.{wrongOf}
+use Rattle.summaries.specs.Summaries.{wrongOf}
 use Rattle.records.proofs.Images.{read-written, written-read, Accepted}
 use Rattle.table.specs.Table.{Table, ver, link, val, isLive, lengthsFit}
 use Rattle.table.specs.Calls.{begins}

@@ -15,7 +15,7 @@ use Rattle.numbers.proofs.Told.{never}
 use Rattle.records.specs.declared.Record.{Record}
 use Rattle.records.specs.declared.Record.the-variants.{Vacant, Occupied}
 use Rattle.records.specs.Records.{versionOf, presenceOf, Fit, FitAll}
-use Rattle.records.specs.Summaries.{wrongOf, wrongs}
+use Rattle.summaries.specs.Summaries.{wrongOf, wrongs}
 use Rattle.table.specs.Thread.{nextFree}
 use Rattle.image.specs.Rebuild.{firstWrong, fitting, slotIn, valueOf, isFull, isBare, verIn, linkIn}
 

@@ -20,7 +20,7 @@ use Rattle.keys.specs.Keys.{pack}
 use Rattle.records.specs.declared.Record.{Record}
 use Rattle.records.specs.declared.Record.the-variants.{Vacant, Occupied}
 use Rattle.records.specs.Records.{versionOf, presenceOf, recordsOf}
-use Rattle.records.specs.Summaries.{lives, wrongs}
+use Rattle.summaries.specs.Summaries.{lives, wrongs}
 use Rattle.table.specs.declared.Header.{Header}
 use Rattle.table.specs.Table.{Table, lengthsFit}
 use Rattle.table.specs.Calls.{Begun, begins, cannot}

@@ -1,7 +1,7 @@
 // The slot image read: its faults, and a table rebuilt from it over lent arrays. The Rust's `dense.rs`, deserialize.
 ghost use mathlib.Core.Path.{_≡_};
 ghost use Rattle.numbers.specs.Told.{tells};
-ghost use Rattle.records.specs.Summaries.{judgementOf};
+ghost use Rattle.summaries.specs.Summaries.{judgementOf};
 ghost use Rattle.dense.specs.Lent.{table, before, after};
 ghost use Rattle.dense.specs.Answers.{begunOf};
 ghost use Rattle.image.specs.Rebuild.{firstWrong, judgedCounts, rebuiltFrom, rebuild};
@@ -13,10 +13,10 @@ use dense::Started;
 use dense::lengths_fit;
 use keys::KeyData;
 use keys::is_odd;
-use records::Judged;
 use records::Record;
 use records::RecordRead;
 use refusal::Refusal;
+use summaries::Judged;
 use table::Header;
 
 // How many slots an image has, and how many of them are occupied.
@@ -38,7 +38,7 @@ fn first_wrong(version: u32, presence: u32) -> bool
 fn judge(bytes: &[u8], most: usize) -> Judged
     ensures { λ r. ⌜ judgementOf r ≡ judgedAt (now (bytes .entry)) most ⌝ }
 {
-    match records::judge_records(bytes, most) {
+    match summaries::judge_records(bytes, most) {
         Judged::Refused(why) => Judged::Refused(why),
         Judged::Fine { from, summary } => {
             if summary.count == 0 {

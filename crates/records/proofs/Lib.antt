@@ -1,5 +1,4 @@
 pub mod Records
-pub mod Summaries
 pub mod Images
 pub mod Outcomes
 pub mod Faults

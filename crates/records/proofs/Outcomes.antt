@@ -7,15 +7,9 @@ use Rattle.refusal.proofs.Numbers.{number-one-to-one}
 use Rattle.numbers.specs.Told.{Told}
 use Rattle.numbers.proofs.Told.{never, told, refused-same, both}
 use Rattle.records.specs.Records.{recordOf}
-use Rattle.records.specs.Summaries.{judgementOf}
 use Rattle.records.specs.declared.Record.{Record}
 use Rattle.records.specs.declared.RecordRead.{RecordRead}
 use Rattle.records.specs.declared.RecordRead.the-variants.{Read, Refused}
-use Rattle.records.specs.declared.Summary.{Summary}
-use Rattle.records.specs.declared.Judged.{Judged}
-use Rattle.records.specs.declared.Judged.the-variants as Judged′
-
--- ---- read_record
 
 pub record-one-to-one : (r q : RecordRead) → recordOf r ≡ recordOf q → r ≡ q
 record-one-to-one (Read x n) (Read y m) e = let p = both (told e) in ap₂ Read (p .0) (p .1)
@@ -25,14 +19,3 @@ record-one-to-one (Refused k) (Refused j) e = ap Refused (number-one-to-one k j 
 
 pub only-record : {x : Told (Record × ℕ)} {r q : RecordRead} → recordOf r ≡ x → recordOf q ≡ x → r ≡ q
 only-record = only-read recordOf record-one-to-one
-
--- ---- judge_records
-
-pub judgement-one-to-one : (r q : Judged) → judgementOf r ≡ judgementOf q → r ≡ q
-judgement-one-to-one (Judged′.Fine n s) (Judged′.Fine m t) e = let p = both (told e) in ap₂ Judged′.Fine (p .0) (p .1)
-judgement-one-to-one (Judged′.Fine n s) (Judged′.Refused k) e = never (sym e)
-judgement-one-to-one (Judged′.Refused k) (Judged′.Fine n s) e = never e
-judgement-one-to-one (Judged′.Refused k) (Judged′.Refused j) e = ap Judged′.Refused (number-one-to-one k j (refused-same e))
-
-pub only-judgement : {x : Told (ℕ × Summary)} {r q : Judged} → judgementOf r ≡ x → judgementOf q ≡ x → r ≡ q
-only-judgement = only-read judgementOf judgement-one-to-one

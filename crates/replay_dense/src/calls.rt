@@ -49,7 +49,7 @@ fn look(
     op: u8,
 ) -> Answer {
     if op == b'n' {
-        return issued(dense::next_key(h, versions, links, keys, values));
+        return issued(dense_next::next_key(h, versions, links, keys, values));
     }
     if op == b'l' {
         return counted(dense::len(h, versions, links, keys, values));
@@ -77,7 +77,7 @@ fn enter(
         return insert(h, versions, links, keys, values, x);
     }
     if op == b'a' {
-        let changed = dense_enter::reattach(h, versions, links, keys, values, k, x);
+        let changed = dense_reattach::reattach(h, versions, links, keys, values, k, x);
         let g = changed.header;
         let verdict = changed.answer;
         return Made {

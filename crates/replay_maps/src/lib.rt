@@ -225,7 +225,7 @@ pub fn disjoint(
     if wanted.len() < count {
         return Answer::of(NUMBER, 0);
     }
-    match secondary_sweep::disjoint(h, versions, values, &wanted[..count], places) {
+    match secondary_disjoint::disjoint(h, versions, values, &wanted[..count], places) {
         Swept::Done => Answer::of(PLACES, count as u64),
         Swept::Refused(why) => Answer::refused(why),
     }

@@ -12,9 +12,9 @@ use dense::Verdict;
 use dense::len;
 use dense::lookup;
 use dense_enter::insert;
-use dense_enter::reattach;
 use dense_leave::detach;
 use dense_leave::remove;
+use dense_reattach::reattach;
 use refusal::Refusal;
 use table::Header;
 

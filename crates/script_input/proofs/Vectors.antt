@@ -7,7 +7,8 @@ use Rattle.text.specs.Text.{digits, digitOf, keyText}
 use Rattle.table.specs.Table.{Table, lengthsFit, hasShape, isLive, dead, isHeld, lastInRange, headIsFree, entered, freed, filled, left}
 use Rattle.table.specs.Calls.{freshTable, len, placeIn, place, lookup, nextIn, next, inserted, insert, leaving, remove}
 use Rattle.table.specs.Steps.{step}
-use Rattle.commands.specs.Lines.{numberAt, fieldAt, keyIn, asked}
+use Rattle.fields.specs.Fields.{numberAt, fieldAt}
+use Rattle.commands.specs.Lines.{keyIn, asked}
 use Rattle.script_act.specs.Acts.{answered}
 use Rattle.script.specs.Script.{answerText, lineOut}
 use Rattle.script_input.specs.Input.{linesFrom, printedLines, printed}

@@ -5,9 +5,9 @@ use map::MapHeader;
 use rules::Rule;
 use secondary::is_whole;
 use secondary::lookup;
+use secondary_disjoint::disjoint;
 use secondary_enter::fresh;
 use secondary_enter::put;
-use secondary_sweep::disjoint;
 
 // The number of a key: the version's lowest bit is as given.
 fn key(index: u32, version: u32) -> u64 {

@@ -1,5 +1,2 @@
 pub mod Turns
-pub mod Marks
-pub mod Runs
-pub mod Gives
 pub mod Only

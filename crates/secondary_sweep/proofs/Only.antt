@@ -1,6 +1,5 @@
--- No second outcome of retain, clear and disjoint: two outcomes that meet one contract are the same answer, header, arrays and output.
--- Assumes nothing.
-use mathlib.Core.Path.{_≡_, refl, sym, ap, ap₂, _∙_}
+-- No second outcome of retain and clear: two outcomes that meet one contract are the same answer, header and arrays. Assumes nothing.
+use mathlib.Core.Path.{_≡_, ap, ap₂}
 use mathlib.Core.List.{List}
 use Prim.Native.Nat.{ℕ}
 use Rattle.refusal.specs.Refusals.{numberOf}
@@ -25,7 +24,6 @@ abbrev mapOf : List ℕ → List ℕ → MapHeader → Map
 mapOf vs xs h = record { versions = vs; values = xs; head = h }
 
 module _ (vs us xs ys : List ℕ) where
-  -- retain and clear
   pub sweep-only : (r q : Sweep) (o : Out) → _≡_ {A = Out} (sweptOf (r .answer), mapOf vs xs (r .header)) o → _≡_ {A = Out} (sweptOf (q .answer), mapOf us ys (q .header)) o
       → (r ≡ q) × (vs ≡ us) × (xs ≡ ys)
   sweep-only r q o e f =
@@ -34,10 +32,3 @@ module _ (vs us xs ys : List ℕ) where
         ap (λ (m : Map). m .versions) (p .1),
         ap (λ (m : Map). m .values) (p .1),
       )
-
-  pub disjoint-only : (r q : Swept) (h : MapHeader) (out outs : List ℕ) (o : Out × List ℕ) → _≡_ {A = Out × List ℕ} ((sweptOf r, mapOf vs xs h), out) o
-      → _≡_ {A = Out × List ℕ} ((sweptOf q, mapOf us ys h), outs) o → (r ≡ q) × (vs ≡ us) × (xs ≡ ys) × (out ≡ outs)
-  disjoint-only r q h out outs o e f =
-      let s : _≡_ {A = Out × List ℕ} ((sweptOf r, mapOf vs xs h), out) ((sweptOf q, mapOf us ys h), outs) = e ∙ sym f in
-      let p = out-only sweptOf swept-one-to-one r q _ _ (sweptOf q, mapOf us ys h) (ap (λ (z : Out × List ℕ). z .0) s) refl in
-      (p .0, ap (λ (m : Map). m .versions) (p .1), ap (λ (m : Map). m .values) (p .1), ap (λ (z : Out × List ℕ). z .1) s)

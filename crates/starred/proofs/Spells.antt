@@ -8,7 +8,7 @@ use Rattle.table.specs.Table.{lengthsFit, hasShape, isLive, dead, isDetached, i
 use Rattle.table.specs.Thread.{nextFree, joined}
 use Rattle.numbers.specs.Numbers.{takeOf, readFrom, numberAt, groupsOf, encoded}
 use Rattle.records.specs.Records.{recordAt, recordsFrom, countOf, listOf, recordsOf, recordBytes, listBytes, bytesOf}
-use Rattle.records.specs.Summaries.{lives, wrongs}
+use Rattle.summaries.specs.Summaries.{lives, wrongs}
 use Rattle.image.specs.Image.{slotOf, imageOf, imageBytes}
 use Rattle.image.specs.Rebuild.{firstWrong, fitting, judgedImage, isFull, isBare, verIn, linkIn, rebuiltTo, rebuilt, rebuiltFrom}
 use Rattle.starred.specs.Spells.{spells, moved, shown, room, shownBy, expectedBy}

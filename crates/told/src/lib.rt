@@ -33,7 +33,7 @@ pub fn reattach(
 ) -> Header
     ensures { λ r. ⌜ after versions links keys values r ≡ (reattach (before versions links keys values h) k x) .1 ⌝ }
 {
-    let r = dense_enter::reattach(h, versions, links, keys, values, k, x);
+    let r = dense_reattach::reattach(h, versions, links, keys, values, k, x);
     let answer = r.answer;
     say::verdict(answer);
     r.header

@@ -7,7 +7,7 @@ use Rattle.bent_maps.proofs.disjoint_in.Reads as reads
 use Rattle.bent_maps.proofs.disjoint_in.Lts as lts
 use Rattle.bent_draws.proofs.accepted.Reads as accepted-reads
 use Rattle.bent_slots.proofs.swept.Reads as swept-reads
-use Rattle.secondary_sweep.proofs.disjoint.Reads as disjoint-reads
+use Rattle.secondary_disjoint.proofs.disjoint.Reads as disjoint-reads
 
 -- src/rt:257:9
 accepted-requires : tie.Need-accepted-requires

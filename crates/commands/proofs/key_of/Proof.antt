@@ -3,8 +3,8 @@ use mathlib.Core.Path.{_≡_, sym, ap, _∙_}
 use Prim.Native.Nat.{ℕ}
 use native.Mathlib.Omega.{arith}
 use borrow.Author.Needs.{needs}
-use Rattle.commands.specs.declared.Number.the-variants.{Is}
-use Rattle.commands.proofs.Numbers.{field-small}
+use Rattle.fields.specs.declared.Number.the-variants.{Is}
+use Rattle.fields.proofs.Numbers.{field-small}
 use Rattle.commands.proofs.Lines.{key-none, key-half, key-whole}
 use Rattle.commands.proofs.key_of.Statement.{statement}
 use Rattle.commands.proofs.key_of.Tie as tie

@@ -7,8 +7,8 @@ use mathlib.Core.List.{List}
 use Prim.Native.Nat.{ℕ}
 use borrow.Author.Tests.{eq-eqb, ne-eqb}
 use Rattle.numbers.specs.Told.{Told, tells, refused, onward}
-use Rattle.records.specs.declared.Summary.{Summary}
-use Rattle.records.specs.Summaries.{judgementOf, judgedOf}
+use Rattle.summaries.specs.declared.Summary.{Summary}
+use Rattle.summaries.specs.Summaries.{judgementOf, judgedOf}
 use Rattle.image.specs.Rebuild.{firstWrong}
 use Rattle.image.proofs.Faults.{fittingSummary, judgedAt}
 use Rattle.image_read.proofs.judge.Statement.{statement}

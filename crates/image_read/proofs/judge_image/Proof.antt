@@ -1,7 +1,7 @@
 -- `judge_image` meets its contract: the counts among what is kept. Assumes nothing.
 use borrow.Author.Needs.{needs}
 use mathlib.Core.Path.{sym, ap, _∙_}
-use Rattle.records.specs.Summaries.{judgementOf}
+use Rattle.summaries.specs.Summaries.{judgementOf}
 use Rattle.image.proofs.Faults.{counts-refused, counts-told}
 use Rattle.image_read.proofs.judge_image.Statement.{statement}
 use Rattle.image_read.proofs.judge_image.Tie as tie

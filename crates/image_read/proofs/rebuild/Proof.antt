@@ -2,7 +2,7 @@
 use borrow.Author.Needs.{needs}
 use mathlib.Core.Path.{sym, ap, _∙_}
 use Rattle.lists.proofs.Tests.{refuted, confirmed}
-use Rattle.records.specs.Summaries.{judgementOf}
+use Rattle.summaries.specs.Summaries.{judgementOf}
 use Rattle.image.proofs.Building.{starts, rebuild-shape, rebuild-refused, rebuild-told}
 use Rattle.image_read.proofs.rebuild.Statement.{statement}
 use Rattle.image_read.proofs.rebuild.Tie as tie

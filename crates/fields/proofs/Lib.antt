@@ -1,0 +1,3 @@
+pub mod Fields
+pub mod Numbers
+pub mod Decimals

@@ -1,0 +1,4 @@
+pub mod Marks
+pub mod Runs
+pub mod Gives
+pub mod Only
