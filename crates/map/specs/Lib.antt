@@ -2,3 +2,4 @@ pub mod Map
 pub mod Calls
 pub mod Whole
 pub mod Sweeps
+pub mod Refused
