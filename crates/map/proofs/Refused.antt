@@ -2,7 +2,6 @@
 -- everything as it was; where all its tests hold it does what the rules say. Each call is one equation over its list of tests. Assumes nothing.
 use mathlib.Core.Path.{_≡_, refl, ap, _∙_}
 use mathlib.Core.Logic.{_≢_}
-use mathlib.Core.Bool.{Bool, true, false}
 use mathlib.Core.List.{List, [], _∷_, _++_}
 use mathlib.Core.Option.{Option, none, some}
 use Prim.Native.Nat.{ℕ, _-_}
@@ -19,7 +18,7 @@ use Rattle.rules.specs.declared.Rule.{Rule}
 use Rattle.rules.specs.Rules.{keepsOf}
 use Rattle.map.specs.Map.{Map, ver, val, hasShape, isThere, older, grown, withValue, emptied}
 use Rattle.map.specs.Calls as calls
-use Rattle.map.specs.Calls.{Said, said-value, said-done, refused, Out, found, slotIn, slot, lookup, settled, fate, fated, insertKey, insert, leavingFrom, leaving, remove, ahead, met, drain}
+use Rattle.map.specs.Calls.{said-value, said-done, found, slotIn, slot, lookup, settled, fate, fated, insertKey, insert, leavingFrom, leaving, remove, ahead, met, drain}
 use Rattle.map.specs.Whole.{isWhole}
 use Rattle.map.specs.Sweeps.{asked, retaining, retain, clearing, clear, Slots, slots, misses, slotted, slotsOf, given, disjoint}
 use Rattle.map.specs.Refused.{Tests, first, ruled, slotTests, removeTests, insertTests, drainTests, sweepTests, keyTests, disjointTests, canEnter, enters, inserts, drains, indexesOf, beside}

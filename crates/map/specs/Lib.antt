@@ -3,3 +3,4 @@ pub mod Calls
 pub mod Whole
 pub mod Sweeps
 pub mod Refused
+pub mod Conditions

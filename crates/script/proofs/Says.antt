@@ -7,7 +7,7 @@ use native.Mathlib.Omega.{arith}
 use lib.ListN.{length, take, drop, length-append}
 use lib.Seq.{take-at}
 use lib.Dec.{leb}
-use borrow.Author.Tests.{leb-true, le-leb}
+use borrow.Author.Tests.{le-leb}
 use Rattle.lists.specs.Put.{put}
 use Rattle.lists.proofs.Put.{put-put, length-put}
 use Rattle.lists.proofs.Tests.{split}
