@@ -1,36 +1,13 @@
 -- Insert's four answers, each exactly where its condition holds; and that an insert which stores nothing changes nothing. Assumes nothing.
 use mathlib.Core.Path.{_≡_, refl, ap, subst, _∙_}
 use mathlib.Core.Logic.{_≢_, _↔_}
-use mathlib.Core.Bool.{true, false}
-use Prim.Native.Nat.{ℕ, _-_, _≤_, _<_}
+use Prim.Native.Nat.{ℕ}
 use native.Mathlib.Omega.{arith}
-use Rattle.keys.specs.Keys.{idx, version, keyOf, isNull}
-use Rattle.map.specs.Map.{Map, ver, val, hasShape, older}
+use Rattle.keys.specs.Keys.{idx, keyOf}
+use Rattle.map.specs.Map.{Map, val}
 use Rattle.map.specs.Calls.{Said, said-ignored, said-replaced, said-kept, said-stored, refused, Out, insert}
-use Rattle.map.proofs.Ways.{Placed, Taken, Way, unshaped, null, at-zero, too-far, same, under, over, vacant, crowded, new, new-crowded, way, outBy, insert-number}
-
--- "null key: ignored"
-pub record Ignores (m : Map) (k : ℕ) : Type 0 where
-  pub shape : hasShape m ≡ true
-  pub null-key : isNull (keyOf k) ≡ true
-
--- "same version: replace, answer the old value"
-pub record Replaces (m : Map) (k y : ℕ) : Type 0 where
-  pub place : Placed m (keyOf k)
-  pub below : idx k < m .head .s
-  pub version-same : ver m (idx k) ≡ version k
-  pub old : val m (idx k) ≡ y
-
--- "occupied by a newer version: kept"
-pub record Keeps (m : Map) (k : ℕ) : Type 0 where
-  pub taken : Taken m (keyOf k)
-  pub newer : older (version k) (ver m (idx k)) ≡ true
-
--- "else stored": over an older element; or in a vacant slot or a new one, where the count has room
-pub data Stores (m : Map) (k : ℕ) : Type 0 where
-  over-older : Taken m (keyOf k) → older (version k) (ver m (idx k)) ≡ false → Stores m k
-  in-vacant : Placed m (keyOf k) → idx k < m .head .s → ver m (idx k) ≡ 0 → m .head .count < m .head .s - 1 → Stores m k
-  in-new : Placed m (keyOf k) → m .head .s ≤ idx k → m .head .count < idx k → Stores m k
+use Rattle.map.specs.Conditions.{Ignores, Replaces, Keeps, Stores, over-older, in-vacant, in-new}
+use Rattle.map.proofs.Ways.{Way, unshaped, null, at-zero, too-far, same, under, over, vacant, crowded, new, new-crowded, way, outBy, insert-number}
 
 -- ---- from an answer to its condition, all four at once
 

@@ -10,13 +10,13 @@ use Rattle.lists.proofs.Tests.{false-if}
 use Rattle.keys.specs.Keys.{W, idx, version, asRead}
 use Rattle.keys.proofs.Keys.{is-read}
 use Rattle.map.specs.Map.{Map, ver, val, isThere}
-use Rattle.map.specs.Calls.{Said, said-value, said-element, Out, lookup, keyAt, peek, drain}
+use Rattle.map.specs.Calls.{Said, said-value, said-element, Out, lookup, keyAt, peek, drain, gone}
 use Rattle.map.specs.Whole.{Whole}
 use Rattle.map.proofs.Shaped.{shaped}
 use Rattle.map.proofs.Cases.{there, lookup-absent}
 use Rattle.map.proofs.Drains.{Meets, meeting, seen, Taken, taken}
 use Rattle.map.proofs.Elements.{key-idx, key-version, lookup-element}
-use Rattle.map.proofs.Lookups.{gone, answer, lookup-emptied-at, lookup-emptied-off}
+use Rattle.map.proofs.Lookups.{answer, lookup-emptied-at, lookup-emptied-off}
 
 -- a pair from its parts
 both : (o : Out) (a : Said) → o .0 ≡ a → o ≡ (a, o .1)

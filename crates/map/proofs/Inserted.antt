@@ -12,14 +12,15 @@ use Rattle.lists.proofs.Tests.{same-test, false-if}
 use Rattle.keys.specs.Keys.{idx, version, keyOf}
 use Rattle.keys.proofs.Keys.{idx-read}
 use Rattle.map.specs.Map.{Map, ver, val, hasShape, isThere, grown, stored}
-use Rattle.map.specs.Calls.{said-value, said-replaced, said-stored, Out, lookup, put, insert}
+use Rattle.map.specs.Calls.{said-value, said-replaced, said-stored, Out, lookup, put, insert, gone}
+use Rattle.map.specs.Conditions.{Stores, over-older, in-vacant, in-new}
 use Rattle.map.proofs.Shaped.{shaped}
 use Rattle.map.proofs.Grown.{grown-below, grown-above, grown-new}
 use Rattle.map.proofs.Slots.{stored-at, stored-off, stored-value, stored-others, stored-slots, stored-shape, grown-old, grown-values, grown-shape}
 use Rattle.map.proofs.Cases.{there, there-true, lookup-absent, lookup-there, put-there}
 use Rattle.map.proofs.Ways.{Way, unshaped, null, at-zero, too-far, same, under, over, vacant, crowded, new, new-crowded, way, outBy, insert-number, version-some}
-use Rattle.map.proofs.Conditions.{Stores, over-older, in-vacant, in-new, insert-replaced, insert-stored}
-use Rattle.map.proofs.Lookups.{gone, gone-same, has-lookup, lookup-agrees, there-agrees, lookup-valued-other, answer, after}
+use Rattle.map.proofs.Conditions.{insert-replaced, insert-stored}
+use Rattle.map.proofs.Lookups.{gone-same, has-lookup, lookup-agrees, there-agrees, lookup-valued-other, answer, after}
 
 -- ---- growing
 

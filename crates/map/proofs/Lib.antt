@@ -21,3 +21,4 @@ pub mod Drained
 pub mod Frames
 pub mod Disjoints
 pub mod Older
+pub mod Refused

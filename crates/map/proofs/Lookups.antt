@@ -12,15 +12,11 @@ use Rattle.lists.proofs.Tests.{split, true-false, false-if}
 use Rattle.keys.specs.Keys.{idx, version, asRead}
 use Rattle.keys.proofs.Keys.{read-is, is-read}
 use Rattle.map.specs.Map.{Map, ver, val, hasShape, isThere, absent, withValue, emptied}
-use Rattle.map.specs.Calls.{Said, said-value, refused, Out, slot, lookup, put, remove}
+use Rattle.map.specs.Calls.{said-value, Out, slot, lookup, put, remove, gone}
 use Rattle.map.proofs.Shaped.{shaped}
 use Rattle.map.proofs.Cases.{there, by-slot, lookup-unshaped, lookup-absent, lookup-there, put-unshaped, put-absent, put-there, remove-unshaped, remove-absent, remove-there, remove-uncounted}
 use Rattle.map.proofs.Slots.{emptied-at, emptied-off, emptied-values, emptied-slots, emptied-shape, valued-at, valued-off, valued-shape}
 use Rattle.map.proofs.Ways.{version-some}
-
--- the answer for a key that is not there
-abbrev pub gone : Map → ℕ → Said
-gone m k = refused (absent m (idx k) (version k))
 
 pub answer : {o q : Out} → o ≡ q → o .0 ≡ q .0
 answer e = ap (λ (o : Out). o .0) e

@@ -1,21 +1,11 @@
 -- "Older" and the Rust's `is_older_version`: equal where both versions are below 2,147,483,648. Assumes nothing.
 use mathlib.Core.Path.{_≡_}
-use mathlib.Core.Bool.{Bool}
 use Prim.Native.Nat.{ℕ, _+_, _-_, _%_, _≤_, _<_}
 use native.Mathlib.Omega.{arith}
-use lib.Dec.{leb}
 use borrow.Author.Tests.{ltb-true, leb-true, lt-ltb, le-leb}
 use Rattle.lists.proofs.Tests.{same-test}
 use Rattle.keys.specs.Keys.{W}
-use Rattle.map.specs.Map.{older}
-
--- half of the 32-bit numbers
-abbrev pub half : ℕ
-half = 2147483648
-
--- `a.wrapping_sub(b) >= 1 << 31`
-abbrev pub isOlderVersion : ℕ → ℕ → Bool
-isOlderVersion a b = leb half ((a + (W - b)) % W)
+use Rattle.map.specs.Map.{older, half, isOlderVersion}
 
 pub older-rust : (a b : ℕ) → a < half → b < half → older a b ≡ isOlderVersion a b
 unfolding older

@@ -4,7 +4,7 @@ use mathlib.Core.Path.{_≡_, sym, ap, subst, _∙_}
 use mathlib.Core.Logic.{_≢_, by-cases}
 use mathlib.Core.Bool.{true, false, cond}
 use mathlib.Core.List.{List}
-use Prim.Native.Nat.{ℕ, _-_, _<_}
+use Prim.Native.Nat.{ℕ, _<_}
 use native.Mathlib.Omega.{arith}
 use native.Mathlib.Decide.{decLt}
 use lib.ListN.{getD}
@@ -14,7 +14,7 @@ use Rattle.keys.specs.Keys.{idx, version}
 use Rattle.rules.specs.declared.Rule.{Rule}
 use Rattle.rules.specs.Rules.{keepsOf}
 use Rattle.map.specs.Map.{Map, ver, val, isOccupied, lengthsFit, hasShape, isThere}
-use Rattle.map.specs.Calls.{said-value, said-count, said-done, freshMap, len, lookup, ahead, drain}
+use Rattle.map.specs.Calls.{said-value, said-count, said-done, freshMap, len, lookup, ahead, drain, gone}
 use Rattle.map.specs.Whole.{Whole, isWhole}
 use Rattle.map.specs.Sweeps.{asked, retaining, retain, clearing, clear}
 use Rattle.map.proofs.Whole.{whole-passes}
@@ -23,7 +23,7 @@ use Rattle.map.proofs.Seek.{ahead-occupied}
 use Rattle.map.proofs.Drains.{none-ahead, drain-nothing}
 use Rattle.map.proofs.Ways.{version-some}
 use Rattle.map.proofs.Wholes.{whole-fresh-map}
-use Rattle.map.proofs.Lookups.{gone, gone-same, answer, after, lookup-has, has-lookup}
+use Rattle.map.proofs.Lookups.{gone-same, answer, after, lookup-has, has-lookup}
 use Rattle.map.proofs.Sieves.{whole-retaining, retaining-slots, retaining-values, retaining-at}
 use Rattle.map.proofs.Clears.{clearing-slots, clearing-values, whole-clearing, cleared-vacant}
 

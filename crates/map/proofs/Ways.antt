@@ -15,25 +15,12 @@ use Rattle.keys.specs.declared.KeyData.{KeyData}
 use Rattle.keys.proofs.Keys.{version-odd}
 use Rattle.map.specs.Map.{Map, ver, val, hasShape, older, grown, withValue, stored}
 use Rattle.map.specs.Calls.{said-ignored, said-replaced, said-kept, said-stored, refused, Out, Fate, ignores, replaces, keeps, stores, bars, settled, fate, fated, insertKey, insert}
+use Rattle.map.specs.Conditions.{Placed, Taken}
 use Rattle.map.proofs.Shaped.{Shaped, shaped}
 use Rattle.map.proofs.Grown.{grown-below}
 use Rattle.map.proofs.Fates.{fate-unshaped, fate-null, fate-zero, fate-far, fate-below, fate-above}
 
 -- ---- the ways
-
--- a key that comes to a slot
-pub record Placed (m : Map) (key : KeyData) : Type 0 where
-  pub shape : hasShape m ≡ true
-  pub some : isNull key ≡ false
-  pub low : key .idx ≢ 0
-  pub high : key .idx < length (m .versions)
-
--- a key whose slot is occupied, by another version
-pub record Taken (m : Map) (key : KeyData) : Type 0 where
-  pub place : Placed m key
-  pub there : key .idx < m .head .s
-  pub full : ver m (key .idx) ≢ 0
-  pub other : ver m (key .idx) ≢ key .version
 
 pub data Way (m : Map) (key : KeyData) : Type 0 where
   unshaped : hasShape m ≡ false → Way m key

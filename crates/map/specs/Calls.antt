@@ -51,6 +51,7 @@ pub data Begun : Type 0 where
 abbrev pub freshHead : MapHeader
 freshHead = record { s = 1; count = 0 }
 
+-- the map that it begins
 unfoldable pub freshMap : List ℕ → List ℕ → Map
 freshMap vs xs = record { versions = set vs 0 0; values = xs; head = freshHead }
 
@@ -77,6 +78,10 @@ slotIn m i v = cond (isThere m i v) (found i) (fails (absent m i v))
 
 unfoldable pub slot : Map → ℕ → Judged
 slot m k = cond (hasShape m) (slotIn m (idx k) (version k)) (fails 1)
+
+-- the answer for a key that is not there
+abbrev pub gone : Map → ℕ → Said
+gone m k = refused (absent m (idx k) (version k))
 
 unfoldable pub lookup : Map → ℕ → Out
 lookup m k = on m (slot m k) (λ i. (said-value (val m i), m))

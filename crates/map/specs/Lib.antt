@@ -2,3 +2,5 @@ pub mod Map
 pub mod Calls
 pub mod Whole
 pub mod Sweeps
+pub mod Refused
+pub mod Conditions

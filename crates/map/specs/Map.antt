@@ -11,10 +11,11 @@
 -- Version 0 is vacant, and nothing else is. Slot 0 is never used. `·` may be anything: growing writes no value.
 use mathlib.Core.Bool.{Bool, cond, not, _&&_}
 use mathlib.Core.List.{List}
-use Prim.Native.Nat.{ℕ, _+_, _-_}
+use Prim.Native.Nat.{ℕ, _+_, _-_, _%_}
 use lib.Dec.{leb, ltb, eqb}
 use lib.ListN.{length, getD, set, replicate}
 use Rattle.lists.specs.Put.{put}
+use Rattle.keys.specs.Keys.{W}
 use Rattle.map.specs.declared.MapHeader.{MapHeader}
 
 -- "lent versions and values", and the header: "slot count s .., element count"
@@ -56,13 +57,21 @@ hasShape m = lengthsFit (m .versions) (m .values) && (leb 1 (m .head .s) && leb 
 unfoldable pub isThere : Map → ℕ → ℕ → Bool
 isThere m i v = ltb i (m .head .s) && eqb (ver m i) v
 
--- the refusal of a key that is not there
+-- the refusal of a key that is not there. It has the map and the key, though it is 2 whatever they are: why a key is not there is one
+-- definition, which may come to tell more
 unfoldable pub absent : Map → ℕ → ℕ → ℕ
 absent m i v = 2
 
 -- "'older' compares versions as plain numbers": whether version a is older than version b
 unfoldable pub older : ℕ → ℕ → Bool
 older a b = ltb a b
+
+-- the Rust's `is_older_version`, `a.wrapping_sub(b) >= 1 << 31`: "equality with the Rust is asked where both are below 2,147,483,648"
+abbrev pub half : ℕ
+half = 2147483648
+
+abbrev pub isOlderVersion : ℕ → ℕ → Bool
+isOlderVersion a b = leb half ((a + (W - b)) % W)
 
 -- ---- headers after a call
 

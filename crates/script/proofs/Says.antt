@@ -1,12 +1,13 @@
 -- Texts after texts in a buffer, and how long the line of an answer is. Assumes nothing.
-use mathlib.Core.Path.{_≡_, sym, ap, ap₂, _∙_, subst}
+use mathlib.Core.Path.{_≡_, refl, sym, ap, ap₂, _∙_, subst}
 use mathlib.Core.Bool.{true, false}
 use mathlib.Core.List.{List, [], _∷_, _++_}
 use Prim.Native.Nat.{ℕ, _+_, _^_, _≤_, _<_, _/_}
 use native.Mathlib.Omega.{arith}
-use lib.ListN.{length, length-append}
+use lib.ListN.{length, take, drop, length-append}
+use lib.Seq.{take-at}
 use lib.Dec.{leb}
-use borrow.Author.Tests.{leb-true, le-leb}
+use borrow.Author.Tests.{le-leb}
 use Rattle.lists.specs.Put.{put}
 use Rattle.lists.proofs.Put.{put-put, length-put}
 use Rattle.lists.proofs.Tests.{split}
@@ -30,7 +31,7 @@ use Rattle.commands.specs.Lines.{Asked, asked}
 use Rattle.script_act.specs.declared.Answer.{Answer}
 use Rattle.script_act.specs.declared.Answer.the-variants.{Key, Value, Done, Count, Refused}
 use Rattle.script_act.specs.Acts.{answerSaid, answered}
-use Rattle.script.specs.Script.{okText, refusedText, newline, answerText, lineOut, room, thenTold, spoken, endOf, Run, shown, ran}
+use Rattle.script.specs.Script.{okText, refusedText, newline, answerText, lineOut, room, endOf, Run, shown, ran, thenTold, lined}
 
 -- ---- a text after a text
 
@@ -119,53 +120,41 @@ key-short k =
 
 -- ---- an answer's line
 
-pub spoken-short : (a : Said) (at : ℕ) (b : List ℕ) → leb (at + room) (length b) ≡ false → _≡_ {A = Told × List ℕ} (refused 6, b) (spoken a at b)
-unfolding spoken
-spoken-short a at b h = rw h
-
-pub spoken-fits : (a : Said) (at : ℕ) (b : List ℕ) → leb (at + room) (length b) ≡ true → spoken a at b ≡ (ends-at (at + length (lineOut a)), put b at (lineOut a))
-unfolding spoken
-spoken-fits a at b h = rw h
-
 -- b is the buffer before, d the buffer after the answer's text, and x the buffer after the newline
-module _ (at : ℕ) (b d : List ℕ) (w : Told) {q : Told} {x : List ℕ} (fits : leb (at + room) (length b) ≡ true)
-    (ends : _≡_ {A = Told × List ℕ} (q, x) (thenTold w (newline ∷ []) d)) where
+module _ (at : ℕ) (b d : List ℕ) (w : Told) {q : Told} {x : List ℕ} (fits : at + room ≤ length b) (ends : _≡_ {A = Told × List ℕ} (q, x) (thenTold w (newline ∷ []) d)) where
   -- the answer's text and the newline after it are the answer's line, which is no longer than the room
   says : (s : Said) → length (lineOut s) ≤ room → _≡_ {A = Told × List ℕ} (w, d) (written at (answerText s) b)
-      → (_≡_ {A = Told × List ℕ} (q, x) (spoken s at b)) × (endOf q ≤ at + room)
+      → (_≡_ {A = Told × List ℕ} (q, x) (lined s at b)) × (length (lineOut s) ≤ room)
   unfolding lineOut
-  says s l e = (spoke, subst (λ (p : Told × List ℕ). endOf (p .0) ≤ at + room) (sym (spoke ∙ spoken-fits s at b fits)) (omega arith))
+  says s l e = (ends ∙ then-fits at (answerText s) (newline ∷ []) b d w enough e ∙ written-is at (lineOut s) b enough, l)
     where
       enough : at + length (lineOut s) ≤ length b
-      enough = omega (arith, leb-true (at + room) (length b) fits)
-
-      spoke : _≡_ {A = Told × List ℕ} (q, x) (spoken s at b)
-      spoke = ends ∙ then-fits at (answerText s) (newline ∷ []) b d w enough e ∙ written-is at (lineOut s) b enough ∙ sym (spoken-fits s at b fits)
+      enough = omega arith
 
   -- the same by the kind of answer
   module _ {a : Answer} where
     pub says-key : {k : ℕ} {key : KeyData} → a ≡ Key k → key ≡ keyOf k → _≡_ {A = Told × List ℕ} (w, d) (written at (keyText key) b)
-        → (_≡_ {A = Told × List ℕ} (q, x) (spoken (answerSaid a) at b)) × (endOf q ≤ at + room)
+        → (_≡_ {A = Told × List ℕ} (q, x) (lined (answerSaid a) at b)) × (length (lineOut (answerSaid a)) ≤ room)
     unfolding answerText
     says-key {k} e f g = rw e (says (said-key k) (key-short k) (rw f at g))
 
     pub says-value : {y : ℕ} → a ≡ Value y → y < 2 ^ 64 → _≡_ {A = Told × List ℕ} (w, d) (written at (decimal y) b)
-        → (_≡_ {A = Told × List ℕ} (q, x) (spoken (answerSaid a) at b)) × (endOf q ≤ at + room)
+        → (_≡_ {A = Told × List ℕ} (q, x) (lined (answerSaid a) at b)) × (length (lineOut (answerSaid a)) ≤ room)
     unfolding answerText
     says-value {y} e h g = rw e (says (said-value y) (value-short y h) g)
 
     pub says-count : {m : ℕ} → a ≡ Count m → m < 2 ^ 64 → _≡_ {A = Told × List ℕ} (w, d) (written at (decimal m) b)
-        → (_≡_ {A = Told × List ℕ} (q, x) (spoken (answerSaid a) at b)) × (endOf q ≤ at + room)
+        → (_≡_ {A = Told × List ℕ} (q, x) (lined (answerSaid a) at b)) × (length (lineOut (answerSaid a)) ≤ room)
     unfolding answerText
     says-count {m} e h g = rw e (says (said-count m) (count-short m h) g)
 
     pub says-done : a ≡ Done → _≡_ {A = Told × List ℕ} (w, d) (written at okText b)
-        → (_≡_ {A = Told × List ℕ} (q, x) (spoken (answerSaid a) at b)) × (endOf q ≤ at + room)
+        → (_≡_ {A = Told × List ℕ} (q, x) (lined (answerSaid a) at b)) × (length (lineOut (answerSaid a)) ≤ room)
     unfolding answerText
     says-done e g = rw e (says said-done done-short g)
 
     pub says-refused : {r : Refusal} → a ≡ Refused r → _≡_ {A = Told × List ℕ} (w, d) (written at (refusedText ++ decimal (numberOf r)) b)
-        → (_≡_ {A = Told × List ℕ} (q, x) (spoken (answerSaid a) at b)) × (endOf q ≤ at + room)
+        → (_≡_ {A = Told × List ℕ} (q, x) (lined (answerSaid a) at b)) × (length (lineOut (answerSaid a)) ≤ room)
     unfolding answerText
     says-refused {r} e g = rw e (says (calls.refused (numberOf r)) (refused-short (numberOf r) (number-small r)) g)
 
@@ -196,9 +185,38 @@ module _ (t : Table) (line : List ℕ) (at : ℕ) (b : List ℕ) where
 
   -- the parts of a line's outcome, from what was done and what was said
   pub runs : (u : Table) (d : List ℕ) {a : Asked} {s : Said} {w : Told} → leb (at + room) (length b) ≡ true → a ≡ asked line → _≡_ {A = Out} (s, u) (answered t a)
-      → _≡_ {A = Told × List ℕ} (w, d) (spoken s at b) → _≡_ {A = Run} (w, (u, d)) (ran t line at b)
+      → _≡_ {A = Told × List ℕ} (w, d) (lined s at b) → _≡_ {A = Run} (w, (u, d)) (ran t line at b)
   runs u d {a} {s} {w} h e f g =
-      ap (joined u) (g ∙ spoken-fits s at b h) ∙ ap (λ (o : Out). shown o at b) (f ∙ ap (answered t) e) ∙ sym (ran-fits h)
+      ap (joined u) g ∙ ap (λ (o : Out). shown o at b) (f ∙ ap (answered t) e) ∙ sym (ran-fits h)
     where
       joined : Table → Told × List ℕ → Run
       joined v p = (p .0, (v, p .1))
+
+-- where a line ends that has its room
+pub ends-in-room : (s : Said) (at : ℕ) (b d : List ℕ) (w : Told) → _≡_ {A = Told × List ℕ} (w, d) (lined s at b) → length (lineOut s) ≤ room → endOf w ≤ at + room
+ends-in-room s at b d w e l = subst (λ (p : Told × List ℕ). endOf (p .0) ≤ at + room) (sym e) (omega arith)
+
+-- ---- a line made at the front of a buffer
+
+module _ (s : Said) (b d : List ℕ) {w : Written} (e : outcome w d ≡ lined s 0 b) where
+  pub front-end : {n : ℕ} → w ≡ End n → n ≡ length (lineOut s)
+  front-end {n} f =
+      let q : ends-at n ≡ ends-at (0 + length (lineOut s)) = sym (ap toldOf f) ∙ ap (λ (p : Told × List ℕ). p .0) e in
+      let m : n ≡ 0 + length (lineOut s) = cc in
+      omega arith
+
+  -- so what is written of it is the line
+  pub front-written : {n : ℕ} → w ≡ End n → (at : ℕ) (out : List ℕ) → written at (take n d) out ≡ written at (lineOut s) out
+  front-written f at out =
+      ap (λ (t : List ℕ). written at t out)
+      (ap₂ (λ (m : ℕ) (x : List ℕ). take m x) (front-end f) (ap (λ (p : Told × List ℕ). p .1) e)
+      ∙ take-at (lineOut s) (drop (0 + length (lineOut s)) b) (length (lineOut s)) refl)
+
+  pub front-in : {n : ℕ} → w ≡ End n → n ≤ length d
+  front-in f = omega (arith, front-end f, ap (λ (p : Told × List ℕ). length (p .1)) e, length-append (lineOut s) (drop (0 + length (lineOut s)) b))
+
+  pub front-fits : {r : Refusal} → w ≡ written-variants.Refused r → ⊥
+  front-fits {r} f =
+      let q : refused (numberOf r) ≡ ends-at (0 + length (lineOut s)) = sym (ap toldOf f) ∙ ap (λ (p : Told × List ℕ). p .0) e in
+      let z : _≡_ {A = ℕ} 0 1 = cc in
+      omega arith

@@ -50,16 +50,6 @@ lineOut a = answerText a ++ (newline ∷ [])
 abbrev pub room : ℕ
 room = 22
 
--- a text written after one that was told to end at a place; after a refusal, nothing
-abbrev pub thenTold : Told → List ℕ → List ℕ → Told × List ℕ
-thenTold (ends-at n) t b = written n t b
-thenTold (text.refused r) t b = (text.refused r, b)
-
--- an answer printed into the buffer b from a place on: the place after it, and the buffer with the line put in. The room for the longest
--- line is judged first: "output array or buffer too short" is 6, and nothing is written
-unfoldable pub spoken : Said → ℕ → List ℕ → Told × List ℕ
-spoken a at b = cond (leb (at + room) (length b)) (ends-at (at + length (lineOut a)), put b at (lineOut a)) (text.refused 6, b)
-
 -- where a text was told to end; 0 of a refusal
 abbrev pub endOf : Told → ℕ
 endOf (ends-at n) = n
@@ -76,6 +66,18 @@ ranOf w t b = (toldOf w, (t, b))
 abbrev pub shown : Out → ℕ → List ℕ → Run
 shown o at b = (ends-at (at + length (lineOut (o .0))), (o .1, put b at (lineOut (o .0))))
 
--- a line run on a table, its answer printed into the buffer b from a place on; where the buffer has no room, nothing is done
+-- a line run on a table, its answer printed into the buffer b from a place on. The room for the longest answer is judged before the line is
+-- run, since no call is made that could not be answered: 6, and nothing is done
 unfoldable pub ran : Table → List ℕ → ℕ → List ℕ → Run
 ran t line at b = cond (leb (at + room) (length b)) (shown (answered t (asked line)) at b) (text.refused 6, (t, b))
+
+-- ---- for private functions
+
+-- a text written after one that was told to end at a place; after a refusal, nothing
+abbrev pub thenTold : Told → List ℕ → List ℕ → Told × List ℕ
+thenTold (ends-at n) t b = written n t b
+thenTold (text.refused r) t b = (text.refused r, b)
+
+-- an answer's line in the buffer b from a place on, where there is room for it: the place after it, and the buffer with the line put in
+abbrev pub lined : Said → ℕ → List ℕ → Told × List ℕ
+lined a at b = (ends-at (at + length (lineOut a)), put b at (lineOut a))

@@ -8,7 +8,7 @@ ghost use Rattle.refusal.specs.Refusals.{numberOf};
 ghost use Rattle.text.specs.Text.{decimal, toldOf, outcome, written};
 ghost use Rattle.dense.specs.Lent.{before, after};
 ghost use Rattle.script_act.specs.Acts.{answerSaid};
-ghost use Rattle.script.specs.Script.{refusedText, newline, room, thenTold, spoken, endOf, ranOf, ran};
+ghost use Rattle.script.specs.Script.{refusedText, newline, lineOut, room, endOf, ranOf, ran, thenTold, lined};
 use commands::parse;
 use keys::KeyData;
 use refusal::Refusal;
@@ -66,13 +66,11 @@ fn write_refusal(refusal: Refusal, at: usize, out: &mut [u8]) -> Written
     }
 }
 
-// Writes an answer as one line, from a place of a buffer on. The line is never longer than the room.
-pub fn say(answer: Answer, at: usize, out: &mut [u8]) -> Written
-    ensures { λ r. ⌜ (outcome r (now (out .exit)) ≡ spoken (answerSaid answer) at (now (out .entry))) × (endOf (toldOf r) ≤ at + room) ⌝ }
+// Writes an answer as one line, from a place of a buffer that has the room on.
+fn write_line(answer: Answer, at: usize, out: &mut [u8]) -> Written
+    requires { ⌜ at + room ≤ length (now out) ⌝ }
+    ensures { λ r. ⌜ (outcome r (now (out .exit)) ≡ lined (answerSaid answer) at (now (out .entry))) × (length (lineOut (answerSaid answer)) ≤ room) ⌝ }
 {
-    if !has_room(at, out.len()) {
-        return Written::Refused(Refusal::Short);
-    }
     match answer {
         Answer::Key(k) => {
             let w = write_key(KeyData::from_ffi(k), at, out);
@@ -94,6 +92,18 @@ pub fn say(answer: Answer, at: usize, out: &mut [u8]) -> Written
             let w = write_refusal(r, at, out);
             end_line(w, out)
         }
+    }
+}
+
+// Writes an answer as one line, from a place of a buffer on. The line is made beside the buffer, since one that does not fit leaves the buffer
+// as it was.
+pub fn say(answer: Answer, at: usize, out: &mut [u8]) -> Written
+    ensures { λ r. ⌜ outcome r (now (out .exit)) ≡ written at (lineOut (answerSaid answer)) (now (out .entry)) ⌝ }
+{
+    let mut line = [0u8; ROOM];
+    match write_line(answer, 0, &mut line) {
+        Written::End(n) => write_bytes(&line[..n], at, out),
+        Written::Refused(r) => Written::Refused(r),
     }
 }
 
@@ -122,6 +132,6 @@ pub fn run_line(
     let a = did.answer;
     Ran {
         header: g,
-        end: say(a, at, out),
+        end: write_line(a, at, out),
     }
 }
