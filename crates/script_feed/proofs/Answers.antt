@@ -9,8 +9,9 @@ use mathlib.Core.Option.{none}
 use Prim.Native.Nat.{ℕ, _+_, _*_, _≤_}
 use lib.ListN.{length}
 use Rattle.keys.specs.Keys.{asRead}
+use Rattle.table.specs.declared.Header.{Header}
 use Rattle.table.specs.Table.{Table, cap, lengthsFit}
-use Rattle.table.specs.Calls.{said-key, said-done, said-count, refused, freshTable, len}
+use Rattle.table.specs.Calls.{said-key, said-done, said-count, refused, begins, freshHead, fresh, freshTable, len}
 use Rattle.table.specs.Sound.{Sound}
 use Rattle.table.specs.Steps.{Call, c-lookup, c-insert, c-remove, c-detach, c-reattach, step, after, history}
 use Rattle.table.specs.Reading.{Reading, reading, valueIn, isIn}
@@ -96,17 +97,17 @@ module _ (t : Table) (base : Reading) (b : Begins t base) (cs : List Call) (l : 
 -- ---- the whole input, from a fresh table, in any parts
 
 -- a table of the script's capacity can begin
-pub capacity-fits : (vs ls ks xs : List ℕ) → length vs ≡ capacity + 1 → length ls ≡ capacity + 1 → length ks ≡ capacity → length xs ≡ capacity → lengthsFit vs ls ks xs ≡ true
-unfolding lengthsFit
+pub capacity-fits : (vs ls ks xs : List ℕ) → length vs ≡ capacity + 1 → length ls ≡ capacity + 1 → length ks ≡ capacity → length xs ≡ capacity → fresh vs ls ks xs .0 ≡ begins freshHead
+unfolding fresh lengthsFit
 capacity-fits vs ls ks xs v l k x = rw (k, v, l, x)
 
-module _ (vs ls ks xs line out : List ℕ) (k : ℕ) (parts : List (List ℕ)) (long : held ≤ length line) (some : 1 ≤ k) (room-for : k * room ≤ length out)
+module _ (vs ls ks xs : List ℕ) (h : Header) (line out : List ℕ) (k : ℕ) (parts : List (List ℕ)) (long : held ≤ length line) (some : 1 ≤ k) (room-for : k * room ≤ length out)
     (short : areWithin k parts ≡ true) where
-  pub parts-table : fedAll (machine (freshTable vs ls ks xs) 0 line out) parts .1 ≡ after (freshTable vs ls ks xs) (called [] (lines (flatten parts)))
+  pub parts-table : fedAll (machine (freshTable vs ls ks xs h) 0 line out) parts .1 ≡ after (freshTable vs ls ks xs h) (called [] (lines (flatten parts)))
   unfolding after
   parts-table =
-      ap (λ (p : List ℕ × Table). p .1) (parts-printed (freshTable vs ls ks xs) line out k parts long some room-for short)
-      ∙ printed-table (freshTable vs ls ks xs) (lines (flatten parts)) []
+      ap (λ (p : List ℕ × Table). p .1) (parts-printed (freshTable vs ls ks xs h) line out k parts long some room-for short)
+      ∙ printed-table (freshTable vs ls ks xs h) (lines (flatten parts)) []
 
-  pub parts-sound : lengthsFit vs ls ks xs ≡ true → Sound (fedAll (machine (freshTable vs ls ks xs) 0 line out) parts .1)
-  parts-sound f = subst Sound (sym parts-table) (sound-after _ (sound-fresh vs ls ks xs f) (called [] (lines (flatten parts))))
+  pub parts-sound : fresh vs ls ks xs .0 ≡ begins h → Sound (fedAll (machine (freshTable vs ls ks xs h) 0 line out) parts .1)
+  parts-sound e = subst Sound (sym parts-table) (sound-after _ (sound-fresh vs ls ks xs h e) (called [] (lines (flatten parts))))

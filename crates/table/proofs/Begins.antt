@@ -12,13 +12,15 @@ use Rattle.lists.proofs.Tests.{split}
 use Rattle.lists.proofs.Once.{Once, once-nil, sublist-mem}
 use Rattle.keys.specs.Keys.{W, idx, pack, version, asRead}
 use Rattle.keys.proofs.Keys.{version-odd, idx-pack, read-pack, version-pack, read-read}
-use Rattle.table.specs.Table.{Table, ver, link, key, val, lengthsFit, isLive, isDetached, last}
-use Rattle.table.specs.Calls.{Out, freshTable}
+use Rattle.table.specs.declared.Header.{Header}
+use Rattle.table.specs.Table.{Table, ver, link, key, val, isLive, isDetached, last}
+use Rattle.table.specs.Calls.{Out, begins, fresh, freshTable}
 use Rattle.table.specs.Sound.{Sound}
 use Rattle.table.specs.Steps.{Call, step, after, history}
 use Rattle.table.specs.Reading.{Change, nothing, issued, returned, revalued, dies, parts, sieved, change, Reading, blank, changed, reading, valueIn, isIn}
 use Rattle.table.proofs.Changes.{livesAfter, detachedAfter}
 use Rattle.table.proofs.Readings.{keysOf, mem-value, mem-in, value-changed, detached-changed, NewKey, once-changed, once-detached, without-sublist, sifted-sublist, valued-sublist, except-sublist}
+use Rattle.table.proofs.Refused.{fresh-begun}
 use Rattle.table.proofs.Judged.{Live, live}
 use Rattle.table.proofs.Facts.{Detached, detached-facts, facts-detached, not-detached}
 use Rattle.table.proofs.Orderly.{Orderly, orderly}
@@ -122,13 +124,14 @@ pub record Begins (t : Table) (base : Reading) : Type 0 where
   pub detached-once : Once (base .detached)
   pub detached-read : (k : ℕ) → List·Memᴰ k (base .detached) → asRead k ≡ k
 
-pub fresh-begins : (vs ls ks xs : List ℕ) → lengthsFit vs ls ks xs ≡ true → Begins (freshTable vs ls ks xs) blank
-unfolding freshTable valueIn among
-fresh-begins vs ls ks xs fit =
+pub fresh-begins : (vs ls ks xs : List ℕ) (h : Header) → fresh vs ls ks xs .0 ≡ begins h → Begins (freshTable vs ls ks xs h) blank
+unfolding valueIn among
+fresh-begins vs ls ks xs h e =
+    let one : h .s ≡ 1 = ap (λ (g : Header). g .s) (fresh-begun vs ls ks xs h e .1) in
     record {
-      sound = sound-fresh vs ls ks xs fit;
-      finds = λ k. find-not (freshTable vs ls ks xs) k (λ l. omega (arith, l));
-      aways = λ k. not-detached (freshTable vs ls ks xs) _ _ (λ d. omega (arith, d .low, d .high));
+      sound = sound-fresh vs ls ks xs h e;
+      finds = λ k. find-not (freshTable vs ls ks xs h) k (λ l. omega (arith, one, l));
+      aways = λ k. not-detached (freshTable vs ls ks xs h) _ _ (λ d. omega (arith, one, d .low, d .high));
       live-once = once-nil;
       live-read = λ k m. absurd (List·Memᴰ·not-nil m);
       detached-once = once-nil;

@@ -179,11 +179,11 @@ module _ (P : Table → Type 0) (t : Table) (same : P t) where
 module _ (vs ls ks xs : List ℕ) where
   pub frame-fresh-slot : (i : ℕ) → i ≢ 0 → (getD (fresh vs ls ks xs .1 .0) i 0 ≡ getD vs i 0) × (getD (fresh vs ls ks xs .1 .1) i 0 ≡ getD ls i 0)
   unfolding fresh
-  frame-fresh-slot i ne = split (lengthsFit vs ls ks xs) (λ e. rw e (getD-set-other vs 0 i 0 0 ne, getD-set-other ls 0 i 0 0 ne)) (λ e. rw e (refl, refl))
+  frame-fresh-slot i ne = split (lengthsFit vs ls ks xs) (λ e. rw e (getD-set-other vs 0 i _ 0 ne, getD-set-other ls 0 i _ 0 ne)) (λ e. rw e (refl, refl))
 
   pub frame-fresh-lengths : (length (fresh vs ls ks xs .1 .0) ≡ length vs) × (length (fresh vs ls ks xs .1 .1) ≡ length ls)
   unfolding fresh
-  frame-fresh-lengths = split (lengthsFit vs ls ks xs) (λ e. rw e (length-set vs 0 0, length-set ls 0 0)) (λ e. rw e (refl, refl))
+  frame-fresh-lengths = split (lengthsFit vs ls ks xs) (λ e. rw e (length-set vs 0 _, length-set ls 0 _)) (λ e. rw e (refl, refl))
 
 module _ (t : Table) where
   -- ---- lookup: nothing

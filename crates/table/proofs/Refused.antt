@@ -11,8 +11,9 @@ use Rattle.lists.proofs.Tests.{split, either, true-false}
 use Rattle.keys.specs.Keys.{far, idx, pack, version, asRead, odd, down}
 use Rattle.rules.specs.declared.Rule.{Rule}
 use Rattle.rules.specs.Rules.{keepsOf}
+use Rattle.table.specs.declared.Header.{Header}
 use Rattle.table.specs.Table.{Table, ver, link, key, val, cap, lengthsFit, hasShape, isLive, dead, isDetached, isHeld, last, lastIdx, lastInRange, lastIsHeld, hasPlace, headIsFree, freedHead, partedHead, rejoinedHead, withValue, entered, freed, left}
-use Rattle.table.specs.Calls.{Said, said-key, said-value, said-pair, said-done, said-count, said-truth, refused, Out, Judged, found, fails, on, cannot, fresh, placeIn, place, lookup, put, nextIn, next, inserted, insert, keySaid, nextKey, lastOf, leaving, remove, detach, berthIn, berth, reattach, drain}
+use Rattle.table.specs.Calls.{Said, said-key, said-value, said-pair, said-done, said-count, said-truth, refused, Out, Judged, found, fails, on, begins, cannot, freshHead, fresh, placeIn, place, lookup, put, nextIn, next, inserted, insert, keySaid, nextKey, lastOf, leaving, remove, detach, berthIn, berth, reattach, drain}
 use Rattle.table.specs.Sound.{isSound}
 use Rattle.table.specs.Sweeps.{asked, retaining, retain, clearing, clear}
 use Rattle.table.specs.Steps.{Call, c-lookup, c-put, c-insert, c-remove, c-detach, c-reattach, c-drain, c-retain, c-clear, step}
@@ -217,7 +218,13 @@ refused-keeps t c-drain = ruled-keeps t _ (first (drainTests t)) _ (drain-ruled 
 refused-keeps t (c-retain rule) = ruled-keeps t _ (first (sweepTests t)) _ (retain-ruled t rule) refl
 refused-keeps t c-clear = ruled-keeps t _ (first (sweepTests t)) _ (clear-ruled t) refl
 
--- fresh writes nothing where the lengths do not fit
+-- ---- fresh, by the lengths alone
+
+pub fresh-begun : (vs ls ks xs : List ℕ) (h : Header) → fresh vs ls ks xs .0 ≡ begins h → (lengthsFit vs ls ks xs ≡ true) × (h ≡ freshHead)
+unfolding fresh
+fresh-begun vs ls ks xs h = split (lengthsFit vs ls ks xs) (λ a. rw a (λ e. (refl, (cc)))) (λ a. rw a (λ e. let z : _≡_ {A = ℕ} 0 1 = cc in absurd (omega arith)))
+
+-- it writes nothing where the lengths do not fit
 pub fresh-refused-keeps : (vs ls ks xs : List ℕ) (r : ℕ) → fresh vs ls ks xs .0 ≡ cannot r → fresh vs ls ks xs .1 ≡ (vs, ls)
 unfolding fresh
 fresh-refused-keeps vs ls ks xs r =

@@ -46,12 +46,14 @@ pub data Begun : Type 0 where
 abbrev pub freshHead : Header
 freshHead = record { n = 0; s = 1; f = 1 }
 
-unfoldable pub freshTable : List ℕ → List ℕ → List ℕ → List ℕ → Table
-freshTable vs ls ks xs = record { versions = set vs 0 0; links = set ls 0 0; keys = ks; values = xs; head = freshHead }
-
 -- the answer, and the versions and links after it: "fresh and rebuild judge only the array lengths under 1"
 unfoldable pub fresh : List ℕ → List ℕ → List ℕ → List ℕ → Begun × (List ℕ × List ℕ)
 fresh vs ls ks xs = cond (lengthsFit vs ls ks xs) (begins freshHead, (set vs 0 0, set ls 0 0)) (cannot 1, (vs, ls))
+
+-- the table that it leaves, where it answers the header h
+abbrev pub freshTable : List ℕ → List ℕ → List ℕ → List ℕ → Header → Table
+freshTable vs ls ks xs h =
+    record { versions = fresh vs ls ks xs .1 .0; links = fresh vs ls ks xs .1 .1; keys = ks; values = xs; head = h }
 
 -- ---- calls that only look
 
