@@ -9,7 +9,8 @@ use Prim.Native.Nat.{ℕ, _+_, _%_, _<_}
 use native.Mathlib.Omega.{arith}
 use Rattle.lists.specs.Among.{among}
 use Rattle.lists.proofs.Tests.{split}
-use Rattle.lists.proofs.Once.{Once, once-nil, sublist-mem}
+use Rattle.lists.specs.Once.{Once}
+use Rattle.lists.proofs.Once.{once-nil, sublist-mem}
 use Rattle.keys.specs.Keys.{W, idx, pack, version, asRead}
 use Rattle.keys.proofs.Keys.{version-odd, idx-pack, read-pack, version-pack, read-read}
 use Rattle.table.specs.declared.Header.{Header}

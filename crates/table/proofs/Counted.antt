@@ -12,7 +12,8 @@ use lib.ListN.{length, getD, length-append}
 use Rattle.lists.specs.Count.{count}
 use Rattle.lists.proofs.Tests.{true-false}
 use Rattle.lists.proofs.Count.{always, minus, always-true, minus-true, count-always, count-minus, count-inj}
-use Rattle.lists.proofs.Once.{Once, once-append, getD-mem, once-inj, place, place-at, mem-dec}
+use Rattle.lists.specs.Once.{Once}
+use Rattle.lists.proofs.Once.{once-append, getD-mem, once-inj, place, place-at, mem-dec}
 use Rattle.keys.specs.Keys.{W, idx, version}
 use Rattle.keys.proofs.Keys.{idx-pack}
 use Rattle.table.specs.Table.{Table, cap, isDetached}

@@ -15,7 +15,8 @@ use Rattle.lists.specs.Among.{among}
 use Rattle.lists.proofs.Tests.{split, true-false, parts}
 use Rattle.lists.proofs.Put.{put-nil}
 use Rattle.lists.proofs.Among.{among-same, among-rest}
-use Rattle.lists.proofs.Once.{Once, once-nil, once-cons}
+use Rattle.lists.specs.Once.{Once}
+use Rattle.lists.proofs.Once.{once-nil, once-cons}
 use Rattle.keys.specs.Keys.{idx, pack, version, asRead}
 use Rattle.keys.proofs.Keys.{is-read}
 use Rattle.table.specs.Table.{Table, link, key, val, hasShape, isLive, dead, isHeld}

@@ -13,7 +13,8 @@ use lib.Dec.{eqb}
 use borrow.Author.Tests.{eqb-true, eq-eqb, ne-eqb}
 use Rattle.lists.specs.Among.{among}
 use Rattle.lists.proofs.Tests.{split, true-false}
-use Rattle.lists.proofs.Once.{Once, once-head, once-tail, once-cons, once-sublist}
+use Rattle.lists.specs.Once.{Once}
+use Rattle.lists.proofs.Once.{once-head, once-tail, once-cons, once-sublist}
 use Rattle.keys.specs.Keys.{idx}
 use Rattle.table.specs.Reading.{Change, nothing, issued, returned, revalued, dies, parts, sieved, Reading, without, except, valued, sifted, changed, valueIn, isIn, droppedAt}
 use Rattle.table.proofs.Changes.{onSome, sieve, livesAfter, detachedAfter}
