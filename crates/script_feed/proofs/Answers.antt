@@ -11,7 +11,7 @@ use lib.ListN.{length}
 use Rattle.keys.specs.Keys.{asRead}
 use Rattle.table.specs.declared.Header.{Header}
 use Rattle.table.specs.Table.{Table, cap, lengthsFit}
-use Rattle.table.specs.Calls.{said-key, said-done, said-count, refused, begins, freshHead, fresh, freshTable, len}
+use Rattle.table.specs.Calls.{said-key, said-done, said-count, refused, begins, freshHead, fresh, freshTable}
 use Rattle.table.specs.Sound.{Sound}
 use Rattle.table.specs.Steps.{Call, c-lookup, c-insert, c-remove, c-detach, c-reattach, step, after, history}
 use Rattle.table.specs.Reading.{Reading, reading, valueIn, isIn}
@@ -19,7 +19,7 @@ use Rattle.table.proofs.Begins.{Begins, begins-after}
 use Rattle.table.proofs.Keeps.{sound-fresh, sound-after}
 use Rattle.table.proofs.Promises.{valueOr, lookup-reads, remove-reads, detach-reads, reattach-reads, insert-new}
 use Rattle.table.proofs.Counted.{insert-reads}
-use Rattle.table.proofs.Listed.{count-reads}
+use Rattle.table.proofs.Listed.{len-reads}
 use Rattle.table.proofs.Undamaged.{no-damage}
 use Rattle.commands.specs.Lines.{Asked, asks, asks-len, rejects, asked}
 use Rattle.script_act.specs.Acts.{answered}
@@ -74,9 +74,9 @@ module _ (t : Table) (base : Reading) (b : Begins t base) (cs : List Call) (l : 
   unfolding step
   reattach-answers {k} {x} e = called-said e ∙ reattach-reads t base b cs k x
 
-  -- `i`: a key that neither lives nor is detached; 3 exactly where the live and the detached together are C
+  -- `i`: a key, as it is read, that neither lives nor is detached; 3 exactly where the live and the detached together are C
   pub insert-answers : {x : ℕ} (k : ℕ) → asked l ≡ asks (c-insert x) → answered (after t cs) (asked l) .0 ≡ said-key k
-      → (valueIn (reading base (history t cs) .live) k ≡ none) × (isIn (reading base (history t cs) .detached) k ≡ false)
+      → (asRead k ≡ k) × (valueIn (reading base (history t cs) .live) k ≡ none) × (isIn (reading base (history t cs) .detached) k ≡ false)
   unfolding step
   insert-answers {x} k e f = insert-new t base b cs x k (sym (called-said e) ∙ f)
 
@@ -87,8 +87,8 @@ module _ (t : Table) (base : Reading) (b : Begins t base) (cs : List Call) (l : 
 
   -- `l`: how many keys live
   pub len-answers : asked l ≡ asks-len → answered (after t cs) (asked l) .0 ≡ said-count (length (reading base (history t cs) .live))
-  unfolding answered len
-  len-answers e = rw (e, begins-after t base b cs .sound .shape) (ap said-count (count-reads t base b cs))
+  unfolding answered
+  len-answers e = rw e (len-reads t base b cs)
 
   -- no call of a script finds the table damaged
   pub never-damaged : {c : Call} → asked l ≡ asks c → answered (after t cs) (asked l) .0 ≡ refused 5 → ⊥

@@ -172,25 +172,25 @@ module _ (t : Table) (base : Reading) (b : Begins t base) where
   begins-new (sieved keeps) f = tt
 
   -- the keys of a changed list were there or are named as read
-  live-reads : (c : Change) → Fits t c → (k : ℕ) → List·Memᴰ k (keysOf (changed c base .live)) → asRead k ≡ k
+  live-named : (c : Change) → Fits t c → (k : ℕ) → List·Memᴰ k (keysOf (changed c base .live)) → asRead k ≡ k
   unfolding changed
-  live-reads nothing f k m = b .live-read k m
-  live-reads (issued j x) f k m = ⊎-elim (λ e. rw e (f .read)) (b .live-read k) (List·Memᴰ·cases-cons m)
-  live-reads (returned j x) f k m = ⊎-elim (λ e. rw e (f .read)) (b .live-read k) (List·Memᴰ·cases-cons m)
-  live-reads (revalued j x) f k m = b .live-read k (sublist-mem (valued-sublist j x (base .live)) k m)
-  live-reads (dies j) f k m = b .live-read k (sublist-mem (without-sublist j (base .live)) k m)
-  live-reads (parts j) f k m = b .live-read k (sublist-mem (without-sublist j (base .live)) k m)
-  live-reads (sieved keeps) f k m = b .live-read k (sublist-mem (sifted-sublist keeps (base .live)) k m)
+  live-named nothing f k m = b .live-read k m
+  live-named (issued j x) f k m = ⊎-elim (λ e. rw e (f .read)) (b .live-read k) (List·Memᴰ·cases-cons m)
+  live-named (returned j x) f k m = ⊎-elim (λ e. rw e (f .read)) (b .live-read k) (List·Memᴰ·cases-cons m)
+  live-named (revalued j x) f k m = b .live-read k (sublist-mem (valued-sublist j x (base .live)) k m)
+  live-named (dies j) f k m = b .live-read k (sublist-mem (without-sublist j (base .live)) k m)
+  live-named (parts j) f k m = b .live-read k (sublist-mem (without-sublist j (base .live)) k m)
+  live-named (sieved keeps) f k m = b .live-read k (sublist-mem (sifted-sublist keeps (base .live)) k m)
 
-  detached-reads : (c : Change) → Fits t c → (k : ℕ) → List·Memᴰ k (changed c base .detached) → asRead k ≡ k
+  detached-named : (c : Change) → Fits t c → (k : ℕ) → List·Memᴰ k (changed c base .detached) → asRead k ≡ k
   unfolding changed
-  detached-reads nothing f k m = b .detached-read k m
-  detached-reads (issued j x) f k m = b .detached-read k m
-  detached-reads (returned j x) f k m = b .detached-read k (sublist-mem (except-sublist j (base .detached)) k m)
-  detached-reads (revalued j x) f k m = b .detached-read k m
-  detached-reads (dies j) f k m = b .detached-read k m
-  detached-reads (parts j) f k m = ⊎-elim (λ e. rw e (f .read)) (b .detached-read k) (List·Memᴰ·cases-cons m)
-  detached-reads (sieved keeps) f k m = b .detached-read k m
+  detached-named nothing f k m = b .detached-read k m
+  detached-named (issued j x) f k m = b .detached-read k m
+  detached-named (returned j x) f k m = b .detached-read k (sublist-mem (except-sublist j (base .detached)) k m)
+  detached-named (revalued j x) f k m = b .detached-read k m
+  detached-named (dies j) f k m = b .detached-read k m
+  detached-named (parts j) f k m = ⊎-elim (λ e. rw e (f .read)) (b .detached-read k) (List·Memᴰ·cases-cons m)
+  detached-named (sieved keeps) f k m = b .detached-read k m
 
   pub begins-step : (c : Call) → Begins (step t c .1) (changed (change c (step t c .0)) base)
   begins-step c =
@@ -202,9 +202,9 @@ module _ (t : Table) (base : Reading) (b : Begins t base) where
             step-follows t (b .sound) k c .0 ∙ ap (livesAfter d (asRead k)) (b .finds k) ∙ sym (value-changed d base (asRead k) (b .live-once));
         aways = λ k. step-follows t (b .sound) k c .1 ∙ ap (detachedAfter d (asRead k)) (b .aways k) ∙ sym (detached-changed d base (asRead k));
         live-once = once-changed d base (begins-new d f) (b .live-once);
-        live-read = live-reads d f;
+        live-read = live-named d f;
         detached-once = once-detached d base (begins-new d f) (b .detached-once);
-        detached-read = detached-reads d f;
+        detached-read = detached-named d f;
       }
 
 pub begins-after : (t : Table) (base : Reading) → Begins t base → (cs : List Call) → Begins (after t cs) (reading base (history t cs))

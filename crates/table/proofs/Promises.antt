@@ -113,11 +113,13 @@ module _ (t : Table) (base : Reading) (b : Begins t base) (cs : List Call) where
 
   -- ---- Theorem C
 
+  -- the key is answered as it is read, and neither lives nor is detached
   pub insert-new : (x k : ℕ) → insert (after t cs) x .0 ≡ said-key k
-      → (valueIn (reading base (history t cs) .live) k ≡ none) × (isIn (reading base (history t cs) .detached) k ≡ false)
+      → (asRead k ≡ k) × (valueIn (reading base (history t cs) .live) k ≡ none) × (isIn (reading base (history t cs) .detached) k ≡ false)
   unfolding step change
   insert-new x k e =
       let f : Absent (after t cs) k false = subst (λ (s : Said). Fits (after t cs) (change (c-insert x) s)) e (step-fits (after t cs) (now .sound) (c-insert x)) in (
+        f .read,
         base-value (after t cs) _ now k (f .read) ∙ f .lost,
         base-away (after t cs) _ now k (f .read) ∙ f .whether-away,
       )

@@ -10,7 +10,7 @@ use native.Mathlib.Nat.{add-assoc, zero-add}
 use native.Mathlib.Omega.{arith}
 use native.Mathlib.Decide.{ℕ-discrete, decLt}
 use borrow.Author.Tests.{eq-eqb}
-use Rattle.keys.specs.Keys.{W, far, idx, pack, version, down}
+use Rattle.keys.specs.Keys.{W, far, idx, pack, version, asRead, down}
 use Rattle.keys.proofs.Keys.{idx-pack, version-pack, version-odd, version-word}
 use Rattle.keys.proofs.Versions.{down-up}
 use Rattle.table.specs.Table.{Table, ver, link}
@@ -24,6 +24,7 @@ use Rattle.table.proofs.Orderly.{orderly}
 use Rattle.table.proofs.Enter.{head-free}
 use Rattle.table.proofs.Cases.{insert-ways, insert-taken, insert-grown, insert-full}
 use Rattle.table.proofs.Begins.{Begins, base-live, base-detached, begins-after}
+use Rattle.table.proofs.Promises.{insert-new}
 use Rattle.table.proofs.Clock.{clock, clock-odd, clock-away, clock-free, clock-new}
 use Rattle.table.proofs.Turns.{Turns, step-turns}
 
@@ -161,7 +162,7 @@ module _ (t : Table) (base : Reading) (cs : List Call) where
       let r = reissue-base (after t cs) _ (begins-after t base b cs) ds y k h (ap (λ (u : Table). insert u y .0) (sym (after-more ds)) ∙ e) in
       omega (arith, r, removals-more (idx k) ds)
 
--- ---- two inserts that answer one key
+-- ---- two inserts that answer one key, as read
 
 -- after the first the key is live
 insert-lives : (t : Table) (base : Reading) (cs : List Call) (x k : ℕ) → insert (after t cs) x .0 ≡ said-key k
@@ -170,7 +171,9 @@ unfolding history reading step change changed valueIn
 insert-lives t base cs x k e =
     ap (λ (s : Said). valueIn (changed (change (c-insert x) s) (reading base (history t cs)) .live) k) e ∙ rw (eq-eqb k k refl)
 
-pub reissue : (t : Table) (base : Reading) → Begins t base → (cs ds : List Call) (x y k : ℕ) → insert (after t cs) x .0 ≡ said-key k
-    → insert (after t (ds ++ (c-insert x ∷ cs))) y .0 ≡ said-key k
+pub reissue : (t : Table) (base : Reading) → Begins t base → (cs ds : List Call) (x y j k : ℕ) → insert (after t cs) x .0 ≡ said-key j
+    → insert (after t (ds ++ (c-insert x ∷ cs))) y .0 ≡ said-key k → asRead j ≡ asRead k
     → removals base (history t (c-insert x ∷ cs)) (idx k) + round ≤ removals base (history t (ds ++ (c-insert x ∷ cs))) (idx k)
-reissue t base b cs ds x y k e f = reissue-known t base (c-insert x ∷ cs) b ds y k (inl (x, insert-lives t base cs x k e)) f
+reissue t base b cs ds x y j k e f same =
+    let q : j ≡ k = sym (insert-new t base b cs x j e .0) ∙ same ∙ insert-new t base b (ds ++ (c-insert x ∷ cs)) y k f .0 in
+    reissue-known t base (c-insert x ∷ cs) b ds y k (inl (x, insert-lives t base cs x k (e ∙ ap said-key q))) f
