@@ -33,7 +33,8 @@ abbrev pub ruled : {A : Type 0} → A → Option ℕ → Said × A → Said × A
 ruled u none o = o
 ruled u (some r) o = (refused r, u)
 
-abbrev judged : Option ℕ → ℕ → Judged
+-- the same of what is only looked for
+abbrev pub judged : Option ℕ → ℕ → Judged
 judged none p = found p
 judged (some r) p = fails r
 
@@ -95,25 +96,25 @@ sweepTests t = (hasShape t, 1) ∷ (isSound t, 5) ∷ []
 -- ---- each call over its tests
 
 module _ (t : Table) where
-  place-judged : (k : ℕ) → place t k ≡ judged (first (placeTests t k)) (link t (idx k))
+  pub place-ruled : (k : ℕ) → place t k ≡ judged (first (placeTests t k)) (link t (idx k))
   unfolding place placeIn
-  place-judged k =
+  place-ruled k =
       split (hasShape t)
       (λ a. rw a (split (isLive t (idx k) (version k)) (λ b. rw b (split (isHeld t (idx k) (version k)) (λ c. rw c) (λ c. rw c))) (λ b. rw b)))
       (λ a. rw a)
 
   pub lookup-ruled : (k : ℕ) → lookup t k ≡ ruled t (first (placeTests t k)) (said-value (val t (link t (idx k))), t)
   unfolding lookup
-  lookup-ruled k = ruled-on t (place t k) (first (placeTests t k)) (link t (idx k)) _ (place-judged k)
+  lookup-ruled k = ruled-on t (place t k) (first (placeTests t k)) (link t (idx k)) _ (place-ruled k)
 
   pub put-ruled : (k x : ℕ) → put t k x ≡ ruled t (first (placeTests t k)) (said-value (val t (link t (idx k))), withValue t (link t (idx k)) x)
   unfolding put
-  put-ruled k x = ruled-on t (place t k) (first (placeTests t k)) (link t (idx k)) _ (place-judged k)
+  put-ruled k x = ruled-on t (place t k) (first (placeTests t k)) (link t (idx k)) _ (place-ruled k)
 
   leaving-judged : (k : ℕ) → leaving t k ≡ judged (first (leaveTests t k)) (link t (idx k))
   unfolding leaving
   leaving-judged k =
-      ap (lastOf t) (place-judged k)
+      ap (lastOf t) (place-ruled k)
       ∙ split (hasShape t)
       (λ a. rw a (split (isLive t (idx k) (version k)) (λ b. rw b (split (isHeld t (idx k) (version k))
       (λ c. rw c (split (lastInRange t) (λ d. rw d) (λ d. rw d)))
@@ -153,6 +154,10 @@ module _ (t : Table) where
       answers : (j : Judged) → on t j (λ k. (said-key k, inserted t k x)) .0 ≡ keySaid j
       answers (found k) = refl
       answers (fails r) = refl
+
+  pub next-key-ruled : nextKey t ≡ keySaid (judged (first (insertTests t)) issues)
+  unfolding nextKey
+  next-key-ruled = ap keySaid next-judged
 
   berth-judged : (k : ℕ) → berth t k ≡ judged (first (reattachTests t k)) (idx k)
   unfolding berth berthIn
