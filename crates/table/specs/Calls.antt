@@ -4,7 +4,7 @@ use mathlib.Core.Bool.{Bool, cond}
 use mathlib.Core.List.{List, []}
 use Prim.Native.Nat.{ℕ, _+_}
 use lib.Dec.{leb, ltb, eqb}
-use lib.ListN.{length, set, take}
+use lib.ListN.{set, take}
 use Rattle.keys.specs.Keys.{far, idx, pack, version, asRead, odd, down}
 use Rattle.table.specs.declared.Header.{Header}
 use Rattle.table.specs.Table.{Table, ver, link, key, val, cap, lengthsFit, hasShape, isLive, dead, isDetached, isHeld, last, lastIdx, lastInRange, lastIsHeld, hasPlace, headIsFree, freedHead, partedHead, takenHead, grownHead, rejoinedHead, withValue, entered, freed, left}
