@@ -15,9 +15,10 @@ use Rattle.table.specs.Calls.{said-key, said-done, said-count, refused, begins,
 use Rattle.table.specs.Sound.{Sound}
 use Rattle.table.specs.Steps.{Call, c-lookup, c-insert, c-remove, c-detach, c-reattach, step, after, history}
 use Rattle.table.specs.Reading.{Reading, reading, valueIn, isIn}
-use Rattle.table.proofs.Begins.{Begins, begins-after}
+use Rattle.table.specs.Begins.{Begins, valueOr}
+use Rattle.table.proofs.Begins.{begins-after}
 use Rattle.table.proofs.Keeps.{sound-fresh, sound-after}
-use Rattle.table.proofs.Promises.{valueOr, lookup-reads, remove-reads, detach-reads, reattach-reads, insert-new}
+use Rattle.table.proofs.Promises.{lookup-reads, remove-reads, detach-reads, reattach-reads, insert-new}
 use Rattle.table.proofs.Counted.{insert-reads}
 use Rattle.table.proofs.Listed.{len-reads}
 use Rattle.table.proofs.Undamaged.{no-damage}

@@ -12,6 +12,7 @@ use Rattle.table.specs.Calls.{refused, Out}
 use Rattle.table.specs.Sound.{Sound}
 use Rattle.table.specs.Steps.{Call, c-lookup, c-put, c-insert, c-remove, c-detach, c-reattach, c-drain, c-retain, c-clear, step}
 use Rattle.table.specs.Reading.{nothing, change}
+use Rattle.table.specs.Begins.{find, away}
 use Rattle.table.proofs.Changes.{livesAfter, detachedAfter}
 use Rattle.table.proofs.Orderly.{Orderly, orderly}
 use Rattle.table.proofs.Leave.{without-leaves, without-link, apart-leaves, apart-link}
@@ -19,7 +20,7 @@ use Rattle.table.proofs.Enter.{head-free, taken-widens, taken-enters, g
 use Rattle.table.proofs.Cases.{live-occupied, detached-vacant}
 use Rattle.table.proofs.Outcomes.{Outcome, outcome, refuses, looks, puts, takes, grows, removes, detaches, reattaches, drains, done, retains, clears}
 use Rattle.table.proofs.Sieve.{retained, cleared}
-use Rattle.table.proofs.Follows.{find, away, find-leave, away-freed, away-parted, find-enter, away-new, away-back, find-put, away-put, Sieves, sieves-same, find-dropped, away-dropped, sieves-drop}
+use Rattle.table.proofs.Follows.{find-leave, away-freed, away-parted, find-enter, away-new, away-back, find-put, away-put, Sieves, sieves-same, find-dropped, away-dropped, sieves-drop}
 
 -- ---- each call's own reading
 

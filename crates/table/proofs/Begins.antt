@@ -9,18 +9,18 @@ use Prim.Native.Nat.{ℕ, _+_, _%_, _<_}
 use native.Mathlib.Omega.{arith}
 use Rattle.lists.specs.Among.{among}
 use Rattle.lists.proofs.Tests.{split}
-use Rattle.lists.specs.Once.{Once}
 use Rattle.lists.proofs.Once.{once-nil, sublist-mem}
 use Rattle.keys.specs.Keys.{W, idx, pack, version, asRead}
 use Rattle.keys.proofs.Keys.{version-odd, idx-pack, read-pack, version-pack, read-read}
 use Rattle.table.specs.declared.Header.{Header}
-use Rattle.table.specs.Table.{Table, ver, link, key, val, isLive, isDetached, last}
+use Rattle.table.specs.Table.{Table, ver, link, key, val, isLive, last}
 use Rattle.table.specs.Calls.{Out, begins, fresh, freshTable}
 use Rattle.table.specs.Sound.{Sound}
 use Rattle.table.specs.Steps.{Call, step, after, history}
-use Rattle.table.specs.Reading.{Change, nothing, issued, returned, revalued, dies, parts, sieved, change, Reading, blank, changed, reading, valueIn, isIn}
+use Rattle.table.specs.Reading.{Change, nothing, issued, returned, revalued, dies, parts, sieved, change, Reading, blank, changed, reading, valueIn, isIn, keysOf}
+use Rattle.table.specs.Begins.{find, away, Begins}
 use Rattle.table.proofs.Changes.{livesAfter, detachedAfter}
-use Rattle.table.proofs.Readings.{keysOf, mem-value, mem-in, value-changed, detached-changed, NewKey, once-changed, once-detached, without-sublist, sifted-sublist, valued-sublist, except-sublist}
+use Rattle.table.proofs.Readings.{mem-value, mem-in, value-changed, detached-changed, NewKey, once-changed, once-detached, without-sublist, sifted-sublist, valued-sublist, except-sublist}
 use Rattle.table.proofs.Refused.{fresh-begun}
 use Rattle.table.proofs.Judged.{Live, live}
 use Rattle.table.proofs.Facts.{Detached, detached-facts, facts-detached, not-detached}
@@ -29,7 +29,7 @@ use Rattle.table.proofs.Enter.{head-free}
 use Rattle.table.proofs.Cases.{stored-read, stored-live}
 use Rattle.table.proofs.Outcomes.{Outcome, outcome, refuses, looks, puts, takes, grows, removes, detaches, reattaches, drains, done, retains, clears}
 use Rattle.table.proofs.Keeps.{sound-fresh, sound-step}
-use Rattle.table.proofs.Follows.{find, away, find-live, find-dead, find-not, find-read, away-read}
+use Rattle.table.proofs.Follows.{find-live, find-dead, find-not, find-read, away-read}
 use Rattle.table.proofs.Answers.{change-refused, step-follows}
 
 -- ---- what a change says of the key that it names
@@ -112,18 +112,7 @@ module _ (t : Table) (a : Sound t) where
   pub step-fits : (c : Call) → Fits t (change c (step t c .0))
   step-fits c = outcome-fits c (step t c) (outcome t a c)
 
--- ---- a table reads as a base
-
-pub record Begins (t : Table) (base : Reading) : Type 0 where
-  pub sound : Sound t
-  -- the same keys live, with the same values, and the same are detached
-  pub finds : (k : ℕ) → find t k ≡ valueIn (base .live) (asRead k)
-  pub aways : (k : ℕ) → isDetached t (idx k) (version k) ≡ isIn (base .detached) (asRead k)
-  -- each key stands there once, as read
-  pub live-once : Once (keysOf (base .live))
-  pub live-read : (k : ℕ) → List·Memᴰ k (keysOf (base .live)) → asRead k ≡ k
-  pub detached-once : Once (base .detached)
-  pub detached-read : (k : ℕ) → List·Memᴰ k (base .detached) → asRead k ≡ k
+-- ---- a fresh table reads as nothing
 
 pub fresh-begins : (vs ls ks xs : List ℕ) (h : Header) → fresh vs ls ks xs .0 ≡ begins h → Begins (freshTable vs ls ks xs h) blank
 unfolding valueIn among

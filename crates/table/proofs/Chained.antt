@@ -8,11 +8,12 @@ use Rattle.keys.specs.Keys.{idx, version, asRead}
 use Rattle.table.specs.declared.Header.{Header}
 use Rattle.table.specs.Table.{Table, isDetached}
 use Rattle.table.specs.Calls.{said-count, begins, fresh, freshTable, len, lookup}
-use Rattle.table.specs.Steps.{History, after, history}
+use Rattle.table.specs.Steps.{History, after, history, Run, callsOf}
 use Rattle.table.specs.Reading.{Reading, blank, reading, valueIn, isIn}
-use Rattle.table.proofs.Runs.{Run, callsOf, run-after}
-use Rattle.table.proofs.Begins.{Begins, fresh-begins, begins-after}
-use Rattle.table.proofs.Promises.{valueOr, lookup-reads}
+use Rattle.table.specs.Begins.{Begins, valueOr}
+use Rattle.table.proofs.Runs.{run-after}
+use Rattle.table.proofs.Begins.{fresh-begins, begins-after}
+use Rattle.table.proofs.Promises.{lookup-reads}
 use Rattle.table.proofs.Listed.{count-lives, len-lives}
 
 module _ (t : Table) (base : Reading) (b : Begins t base) (h : History) (u : Table) (r : Run t h u) where

@@ -17,12 +17,13 @@ use Rattle.table.specs.Table.{Table, ver, link, key, val}
 use Rattle.table.specs.Calls.{said-count, said-truth, len, isEmpty, listedKeys, listedValues}
 use Rattle.table.specs.Sound.{Sound}
 use Rattle.table.specs.Steps.{Call, after, history}
-use Rattle.table.specs.Reading.{Reading, reading, valueIn}
+use Rattle.table.specs.Reading.{Reading, reading, valueIn, keysOf}
+use Rattle.table.specs.Begins.{Begins}
 use Rattle.table.proofs.Shape.{Shape, shape}
-use Rattle.table.proofs.Readings.{keysOf, length-keys, value-mem}
+use Rattle.table.proofs.Readings.{length-keys, value-mem}
 use Rattle.table.proofs.Cases.{stored-version, stored-read, live-place}
 use Rattle.table.proofs.Follows.{find-stored}
-use Rattle.table.proofs.Begins.{Begins, base-value, base-live, begins-after}
+use Rattle.table.proofs.Begins.{base-value, base-live, begins-after}
 
 -- ---- the lists that are answered, place by place
 

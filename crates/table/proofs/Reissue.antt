@@ -2,7 +2,6 @@
 -- 2 ^ 32; removals come at odd and inserts at even clocks, so half the way that the clock has gone is the number of removals. Assumes nothing.
 use mathlib.Core.Path.{_≡_, refl, sym, ap, ap₂, _∙_}
 use mathlib.Core.Logic.{_⊎_, inl, by-cases, ⊎-elim}
-use mathlib.Core.Bool.{true}
 use mathlib.Core.List.{List, [], _∷_, _++_}
 use mathlib.Core.Option.{some}
 use Prim.Native.Nat.{ℕ, _+_, _/_, _%_, _≤_, _<_}
@@ -17,20 +16,17 @@ use Rattle.table.specs.Table.{Table, ver, link}
 use Rattle.table.specs.Calls.{Said, said-key, refused, Out, insert}
 use Rattle.table.specs.Sound.{Sound}
 use Rattle.table.specs.Steps.{Call, c-insert, step, after, history}
-use Rattle.table.specs.Reading.{change, Reading, changed, reading, valueIn, isIn, removedAt, removals}
+use Rattle.table.specs.Reading.{change, Reading, changed, reading, valueIn, removedAt, removals, Known, round}
+use Rattle.table.specs.Begins.{Begins}
 use Rattle.table.proofs.Readings.{value-mem, in-mem}
 use Rattle.table.proofs.Judged.{live}
 use Rattle.table.proofs.Orderly.{orderly}
 use Rattle.table.proofs.Enter.{head-free}
 use Rattle.table.proofs.Cases.{insert-ways, insert-taken, insert-grown, insert-full}
-use Rattle.table.proofs.Begins.{Begins, base-live, base-detached, begins-after}
+use Rattle.table.proofs.Begins.{base-live, base-detached, begins-after}
 use Rattle.table.proofs.Promises.{insert-new}
 use Rattle.table.proofs.Clock.{clock, clock-odd, clock-away, clock-free, clock-new}
 use Rattle.table.proofs.Turns.{Turns, step-turns}
-
--- as many removals at an index bring its versions round
-abbrev pub round : ℕ
-round = 2147483648
 
 -- ---- the clock through a list of calls
 
@@ -106,11 +102,7 @@ issue-clock t a x k e =
     let z : _≡_ {A = ℕ} 0 1 = cc in
     absurd (omega arith))
 
--- a key is live or detached
-abbrev pub Known : Reading → ℕ → Type 0
-Known r k = ((x : ℕ) × (valueIn (r .live) k ≡ some x)) ⊎ (isIn (r .detached) k ≡ true)
-
--- its version is the clock's
+-- a known key's version is the clock's
 known-clock : (t : Table) (base : Reading) → Begins t base → (k : ℕ) → Known base k → clock t (idx k) ≡ version k
 known-clock t base b k h =
     ⊎-elim
