@@ -11,7 +11,8 @@ use Rattle.table.specs.Table.{Table, ver, link, key, val, cap, lengthsFi
 
 -- ---- answers
 
--- what a call answers: a key, a value, a key and its value, "done", a number, a yes or no; or the number of a refusal
+-- what a call answers: a key, a value, a key and its value, a number, a yes or no; that it is done ("done" of a drain step, and of the calls that have
+-- nothing else to say: reattach, retain, clear, disjoint); or the number of a refusal
 pub data Said : Type 0 where
   said-key : ℕ → Said
   said-value : ℕ → Said
