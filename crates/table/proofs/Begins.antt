@@ -14,9 +14,9 @@ use Rattle.keys.specs.Keys.{W, idx, pack, version, asRead}
 use Rattle.keys.proofs.Keys.{version-odd, idx-pack, read-pack, version-pack, read-read}
 use Rattle.table.specs.declared.Header.{Header}
 use Rattle.table.specs.Table.{Table, ver, link, key, val, isLive, last}
-use Rattle.table.specs.Calls.{Out, begins, fresh, freshTable}
+use Rattle.table.specs.Calls.{Said, said-key, said-value, said-pair, said-done, said-count, said-truth, refused, Out, begins, fresh, freshTable, insert, drain}
 use Rattle.table.specs.Sound.{Sound}
-use Rattle.table.specs.Steps.{Call, step, after, history}
+use Rattle.table.specs.Steps.{Call, c-insert, c-drain, step, after, history}
 use Rattle.table.specs.Reading.{Change, nothing, issued, returned, revalued, dies, parts, sieved, change, Reading, blank, changed, reading, valueIn, isIn, keysOf}
 use Rattle.table.specs.Begins.{find, away, Begins}
 use Rattle.table.proofs.Changes.{livesAfter, detachedAfter}
@@ -73,15 +73,15 @@ module _ (t : Table) (a : Sound t) where
       }
 
   -- the key of a slot's index i and version v, where that slot is neither at this version nor detached
-  absent-pack : (i v : ℕ) → i < W → v < W → v % 2 ≡ 1 → (Live t i v → ⊥) → (Detached t i v → ⊥) → Absent t (pack i v) false
-  absent-pack i v hi hv od nl nd =
+  absent-read : (i v : ℕ) → i < W → v < W → v % 2 ≡ 1 → (Live t i v → ⊥) → (Detached t i v → ⊥) → Absent t (asRead (pack i v)) false
+  absent-read i v hi hv od nl nd =
       let ei : idx (pack i v) ≡ i = idx-pack i v hi in
       let ev : version (pack i v) ≡ v = version-pack i v hi hv od in
-      record {
+      rw (read-pack i v hi hv od) (record {
         read = read-pack i v hi hv od;
         lost = find-not t (pack i v) (λ l. nl (rw (ei, ev) at l));
         whether-away = not-detached t _ _ (λ d. nd (rw (ei, ev) at d));
-      }
+      })
 
   outcome-fits : (c : Call) (r : Out) → Outcome t c r → Fits t (change c (r .0))
   unfolding change
@@ -90,10 +90,10 @@ module _ (t : Table) (a : Sound t) where
   outcome-fits c r (puts j x l) = live-lives j l
   outcome-fits c r (takes x h) =
       let e = head-free t o h in
-      absent-pack (t .head .f) (ver t (t .head .f) + 1) (omega (arith, o .shape)) (omega (arith, e .vacant .even, a .words (t .head .f) h)) (omega (arith, e .vacant .even))
+      absent-read (t .head .f) (ver t (t .head .f) + 1) (omega (arith, o .shape)) (omega (arith, e .vacant .even, a .words (t .head .f) h)) (omega (arith, e .vacant .even))
       (λ l. omega (arith, l .same)) (λ d. omega (arith, d .away, e, o .shape))
   outcome-fits c r (grows x h p) =
-      absent-pack (t .head .s) 1 (omega (arith, o .shape)) (omega arith) refl (λ l. omega (arith, l .high)) (λ d. omega (arith, d .high))
+      absent-read (t .head .s) 1 (omega (arith, o .shape)) (omega arith) refl (λ l. omega (arith, l .high)) (λ d. omega (arith, d .high))
   outcome-fits c r (removes j l) = live-lives j l
   outcome-fits c r (detaches j l) = live-lives j l
   outcome-fits c r (reattaches j x d) =
@@ -104,13 +104,53 @@ module _ (t : Table) (a : Sound t) where
       }
   outcome-fits c r (drains h) =
       let l : last t < t .head .n = omega arith in
-      subst (Lives t) (stored-read t a (last t) l) (live-lives (key t (last t)) (stored-live t a (last t) l))
+      live-lives (key t (last t)) (stored-live t a (last t) l)
   outcome-fits c r (done h) = tt
   outcome-fits c r (retains rule) = tt
   outcome-fits c r clears = tt
 
   pub step-fits : (c : Call) → Fits t (change c (step t c .0))
   step-fits c = outcome-fits c (step t c) (outcome t a c)
+
+-- ---- the keys that are answered are as they are read
+
+abbrev AsRead : Said → Type 0
+AsRead (said-key k) = asRead k ≡ k
+AsRead (said-value v) = Unit {0}
+AsRead (said-pair k v) = asRead k ≡ k
+AsRead said-done = Unit {0}
+AsRead (said-count m) = Unit {0}
+AsRead (said-truth b) = Unit {0}
+AsRead (refused r) = Unit {0}
+
+module _ (t : Table) (a : Sound t) where
+  outcome-read : (c : Call) (r : Out) → Outcome t c r → AsRead (r .0)
+  outcome-read c r (refuses e) = tt
+  outcome-read c r (looks j l) = tt
+  outcome-read c r (puts j x l) = tt
+  outcome-read c r (takes x h) =
+      let o = orderly t a in
+      let e = head-free t o h in
+      read-pack (t .head .f) (ver t (t .head .f) + 1) (omega (arith, o .shape)) (omega (arith, e .vacant .even, a .words (t .head .f) h)) (omega (arith, e .vacant .even))
+  outcome-read c r (grows x h p) = let o = orderly t a in read-pack (t .head .s) 1 (omega (arith, o .shape)) (omega arith) refl
+  outcome-read c r (removes j l) = tt
+  outcome-read c r (detaches j l) = tt
+  outcome-read c r (reattaches j x d) = tt
+  outcome-read c r (drains h) = stored-read t a (last t) (omega arith)
+  outcome-read c r (done h) = tt
+  outcome-read c r (retains rule) = tt
+  outcome-read c r clears = tt
+
+  step-read : (c : Call) → AsRead (step t c .0)
+  step-read c = outcome-read c (step t c) (outcome t a c)
+
+  pub insert-read : (x k : ℕ) → insert t x .0 ≡ said-key k → asRead k ≡ k
+  unfolding step
+  insert-read x k e = subst AsRead e (step-read (c-insert x))
+
+  pub drain-read : (k x : ℕ) → drain t .0 ≡ said-pair k x → asRead k ≡ k
+  unfolding step
+  drain-read k x e = subst AsRead e (step-read c-drain)
 
 -- ---- a fresh table reads as nothing
 

@@ -26,7 +26,7 @@ use Rattle.table.proofs.Facts.{detached-facts}
 use Rattle.table.proofs.Cases.{live-place, stored-read, lookup-live, lookup-dead, put-live, put-dead, remove-live, remove-dead, detach-live, detach-dead, reattach-met, reattach-not, drain-some, drain-none, retain-is, clear-is}
 use Rattle.table.proofs.Follows.{find-live, find-dead, find-not, find-stored}
 use Rattle.table.proofs.Answers.{change-refused}
-use Rattle.table.proofs.Begins.{Absent, Fits, step-fits, base-value, base-away, begins-after}
+use Rattle.table.proofs.Begins.{Absent, Fits, step-fits, insert-read, base-value, base-away, begins-after}
 
 -- ---- on a sound table, by what lookup finds
 
@@ -110,10 +110,12 @@ module _ (t : Table) (base : Reading) (b : Begins t base) (cs : List Call) where
       → (asRead k ≡ k) × (valueIn (reading base (history t cs) .live) k ≡ none) × (isIn (reading base (history t cs) .detached) k ≡ false)
   unfolding step change
   insert-new x k e =
-      let f : Absent (after t cs) k false = subst (λ (s : Said). Fits (after t cs) (change (c-insert x) s)) e (step-fits (after t cs) (now .sound) (c-insert x)) in (
-        f .read,
-        base-value (after t cs) _ now k (f .read) ∙ f .lost,
-        base-away (after t cs) _ now k (f .read) ∙ f .whether-away,
+      let q = insert-read (after t cs) (now .sound) x k e in
+      let g : Absent (after t cs) (asRead k) false = subst (λ (s : Said). Fits (after t cs) (change (c-insert x) s)) e (step-fits (after t cs) (now .sound) (c-insert x)) in
+      let f : Absent (after t cs) k false = rw q at g in (
+        q,
+        base-value (after t cs) _ now k q ∙ f .lost,
+        base-away (after t cs) _ now k q ∙ f .whether-away,
       )
 
   -- ---- the drain step

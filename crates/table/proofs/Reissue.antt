@@ -157,15 +157,16 @@ module _ (t : Table) (base : Reading) (cs : List Call) where
 -- ---- two inserts that answer one key, as read
 
 -- after the first the key is live
-insert-lives : (t : Table) (base : Reading) (cs : List Call) (x k : ℕ) → insert (after t cs) x .0 ≡ said-key k
+insert-lives : (t : Table) (base : Reading) (cs : List Call) (x k : ℕ) → asRead k ≡ k → insert (after t cs) x .0 ≡ said-key k
     → valueIn (reading base (history t (c-insert x ∷ cs)) .live) k ≡ some x
 unfolding history reading step change changed valueIn
-insert-lives t base cs x k e =
-    ap (λ (s : Said). valueIn (changed (change (c-insert x) s) (reading base (history t cs)) .live) k) e ∙ rw (eq-eqb k k refl)
+insert-lives t base cs x k q e =
+    ap (λ (s : Said). valueIn (changed (change (c-insert x) s) (reading base (history t cs)) .live) k) e ∙ rw (q, eq-eqb k k refl)
 
 pub reissue : (t : Table) (base : Reading) → Begins t base → (cs ds : List Call) (x y j k : ℕ) → insert (after t cs) x .0 ≡ said-key j
     → insert (after t (ds ++ (c-insert x ∷ cs))) y .0 ≡ said-key k → asRead j ≡ asRead k
     → removals base (history t (c-insert x ∷ cs)) (idx k) + round ≤ removals base (history t (ds ++ (c-insert x ∷ cs))) (idx k)
 reissue t base b cs ds x y j k e f same =
-    let q : j ≡ k = sym (insert-new t base b cs x j e .0) ∙ same ∙ insert-new t base b (ds ++ (c-insert x ∷ cs)) y k f .0 in
-    reissue-known t base (c-insert x ∷ cs) b ds y k (inl (x, insert-lives t base cs x k (e ∙ ap said-key q))) f
+    let r : asRead k ≡ k = insert-new t base b (ds ++ (c-insert x ∷ cs)) y k f .0 in
+    let q : j ≡ k = sym (insert-new t base b cs x j e .0) ∙ same ∙ r in
+    reissue-known t base (c-insert x ∷ cs) b ds y k (inl (x, insert-lives t base cs x k r (e ∙ ap said-key q))) f

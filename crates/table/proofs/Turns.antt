@@ -221,7 +221,7 @@ module _ (t : Table) (base : Reading) (b : Begins t base) (i : ℕ) (hi : i < W)
   outcome-turns c r (drains h) =
       let l : last t < t .head .n = omega arith in
       let oj = stored-occupied t (b .sound) (last t) l in
-      inl (freed-falls t _ o _ oj (dropped-leaves t (b .sound) (last t) l) i (without-link t o _ oj))
+      rw (idx-read (key t (last t))) (inl (freed-falls t _ o _ oj (dropped-leaves t (b .sound) (last t) l) i (without-link t o _ oj)))
   outcome-turns c r (done h) = still t refl
   outcome-turns c r (retains rule) =
       rw (dropped-own (keepsOf rule)) (inl (retained (keepsOf rule) (Sweep (keepsOf rule)) (sweep-same (keepsOf rule)) (sweep-drop (keepsOf rule)) t (b .sound) i hi))

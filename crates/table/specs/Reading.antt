@@ -40,7 +40,7 @@ accepted (refused r) x = nothing
 
 -- the key that an answer issues, and the key that it says was drained
 abbrev pub issue : Said → ℕ → Change
-issue (said-key k) x = issued k x
+issue (said-key k) x = issued (asRead k) x
 issue (said-value v) x = nothing
 issue (said-pair k v) x = nothing
 issue said-done x = nothing
@@ -51,7 +51,7 @@ issue (refused r) x = nothing
 abbrev pub drained : Said → Change
 drained (said-key k) = nothing
 drained (said-value v) = nothing
-drained (said-pair k v) = dies k
+drained (said-pair k v) = dies (asRead k)
 drained said-done = nothing
 drained (said-count m) = nothing
 drained (said-truth b) = nothing
