@@ -14,9 +14,9 @@ use Rattle.keys.specs.Keys.{W, idx, pack, version, asRead}
 use Rattle.keys.proofs.Keys.{version-odd, idx-pack, read-pack, version-pack, read-read}
 use Rattle.table.specs.declared.Header.{Header}
 use Rattle.table.specs.Table.{Table, ver, link, key, val, isLive, last}
-use Rattle.table.specs.Calls.{Said, said-key, said-value, said-pair, said-done, said-count, said-truth, refused, Out, begins, fresh, freshTable, insert, drain}
+use Rattle.table.specs.Calls.{said-key, refused, Out, begins, fresh, freshTable, insert}
 use Rattle.table.specs.Sound.{Sound}
-use Rattle.table.specs.Steps.{Call, c-insert, c-drain, step, after, history}
+use Rattle.table.specs.Steps.{Call, step, after, history}
 use Rattle.table.specs.Reading.{Change, nothing, issued, returned, revalued, dies, parts, sieved, change, Reading, blank, changed, reading, valueIn, isIn, keysOf}
 use Rattle.table.specs.Begins.{find, away, Begins}
 use Rattle.table.proofs.Changes.{livesAfter, detachedAfter}
@@ -26,7 +26,7 @@ use Rattle.table.proofs.Judged.{Live, live}
 use Rattle.table.proofs.Facts.{Detached, detached-facts, facts-detached, not-detached}
 use Rattle.table.proofs.Orderly.{Orderly, orderly}
 use Rattle.table.proofs.Enter.{head-free}
-use Rattle.table.proofs.Cases.{stored-read, stored-live}
+use Rattle.table.proofs.Cases.{stored-live, insert-ways, insert-taken, insert-grown, insert-full}
 use Rattle.table.proofs.Outcomes.{Outcome, outcome, refuses, looks, puts, takes, grows, removes, detaches, reattaches, drains, done, retains, clears}
 use Rattle.table.proofs.Keeps.{sound-fresh, sound-step}
 use Rattle.table.proofs.Follows.{find-live, find-dead, find-not, find-read, away-read}
@@ -102,9 +102,7 @@ module _ (t : Table) (a : Sound t) where
         lost = sym (find-read t j) ∙ find-not t j (λ l. omega (arith, l .same, d .same, version-odd j));
         whether-away = sym (away-read t j) ∙ facts-detached t _ _ d;
       }
-  outcome-fits c r (drains h) =
-      let l : last t < t .head .n = omega arith in
-      live-lives (key t (last t)) (stored-live t a (last t) l)
+  outcome-fits c r (drains h) = live-lives (key t (last t)) (stored-live t a (last t) (omega arith))
   outcome-fits c r (done h) = tt
   outcome-fits c r (retains rule) = tt
   outcome-fits c r clears = tt
@@ -112,45 +110,24 @@ module _ (t : Table) (a : Sound t) where
   pub step-fits : (c : Call) → Fits t (change c (step t c .0))
   step-fits c = outcome-fits c (step t c) (outcome t a c)
 
--- ---- the keys that are answered are as they are read
-
-abbrev AsRead : Said → Type 0
-AsRead (said-key k) = asRead k ≡ k
-AsRead (said-value v) = Unit {0}
-AsRead (said-pair k v) = asRead k ≡ k
-AsRead said-done = Unit {0}
-AsRead (said-count m) = Unit {0}
-AsRead (said-truth b) = Unit {0}
-AsRead (refused r) = Unit {0}
-
-module _ (t : Table) (a : Sound t) where
-  outcome-read : (c : Call) (r : Out) → Outcome t c r → AsRead (r .0)
-  outcome-read c r (refuses e) = tt
-  outcome-read c r (looks j l) = tt
-  outcome-read c r (puts j x l) = tt
-  outcome-read c r (takes x h) =
-      let o = orderly t a in
-      let e = head-free t o h in
-      read-pack (t .head .f) (ver t (t .head .f) + 1) (omega (arith, o .shape)) (omega (arith, e .vacant .even, a .words (t .head .f) h)) (omega (arith, e .vacant .even))
-  outcome-read c r (grows x h p) = let o = orderly t a in read-pack (t .head .s) 1 (omega (arith, o .shape)) (omega arith) refl
-  outcome-read c r (removes j l) = tt
-  outcome-read c r (detaches j l) = tt
-  outcome-read c r (reattaches j x d) = tt
-  outcome-read c r (drains h) = stored-read t a (last t) (omega arith)
-  outcome-read c r (done h) = tt
-  outcome-read c r (retains rule) = tt
-  outcome-read c r clears = tt
-
-  step-read : (c : Call) → AsRead (step t c .0)
-  step-read c = outcome-read c (step t c) (outcome t a c)
+  -- ---- the key that an insert answers is as it is read
 
   pub insert-read : (x k : ℕ) → insert t x .0 ≡ said-key k → asRead k ≡ k
-  unfolding step
-  insert-read x k e = subst AsRead e (step-read (c-insert x))
-
-  pub drain-read : (k x : ℕ) → drain t .0 ≡ said-pair k x → asRead k ≡ k
-  unfolding step
-  drain-read k x e = subst AsRead e (step-read c-drain)
+  insert-read x k e =
+      insert-ways t a
+      (λ h.
+      let f = head-free t o h in
+      let p : insert t x .0 ≡ said-key (pack (t .head .f) (ver t (t .head .f) + 1)) = ap (λ (r : Out). r .0) (insert-taken t a h x) in
+      let q : k ≡ pack (t .head .f) (ver t (t .head .f) + 1) = cc in
+      rw q (read-pack (t .head .f) _ (omega (arith, o .shape)) (omega (arith, f .vacant .even, a .words (t .head .f) h)) (omega (arith, f .vacant .even))))
+      (λ g c.
+      let p : insert t x .0 ≡ said-key (pack (t .head .s) 1) = ap (λ (r : Out). r .0) (insert-grown t a g x c) in
+      let q : k ≡ pack (t .head .s) 1 = cc in
+      rw q (read-pack (t .head .s) 1 (omega (arith, o .shape)) (omega arith) refl))
+      (λ g c.
+      let p : insert t x .0 ≡ refused 3 = ap (λ (r : Out). r .0) (insert-full t a g x c) in
+      let z : _≡_ {A = ℕ} 0 1 = cc in
+      absurd (omega arith))
 
 -- ---- a fresh table reads as nothing
 
