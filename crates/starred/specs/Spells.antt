@@ -54,8 +54,9 @@ abbrev pub begun : Header → Begun × Arrays → Shown × Table
 begun h (calls.begins g, a) = (begins g, with a g)
 begun h (calls.cannot r, a) = (faulty r, with a h)
 
-abbrev pub zeros : ℕ → List ℕ
-zeros m = listed (λ i. 0) m
+-- what arrays and buffers hold before
+abbrev pub nines : ℕ → List ℕ
+nines m = listed (λ i. 9) m
 
 unfoldable pub moved : Table → Move → Shown × Table
 moved t (inserts x) = answered (insert t x)
@@ -63,7 +64,7 @@ moved t asks-next = (answers (nextKey t), t)
 moved t (removes k) = answered (remove t k)
 moved t (detaches k) = answered (detach t k)
 moved t (reattaches k x) = answered (reattach t k x)
-moved t writes-image = (wrote (writeImage t (zeros 16)), t)
+moved t writes-image = (wrote (writeImage t (nines 16)), t)
 moved t (rebuilds bytes) = begun (t .head) (rebuild (t .versions) (t .links) (t .keys) (t .values) bytes)
 moved t (reads-key k) = (key (keyOf k), t)
 moved t (looks-at i) = (version (ver t i), t)
@@ -72,13 +73,13 @@ unfoldable pub shown : Table → List Move → List Shown
 shown t [] = []
 shown t (m ∷ ms) = moved t m .0 ∷ shown (moved t m .1) ms
 
--- what fresh leaves of the versions and links, with keys and values of C zeros
+-- what fresh leaves of the versions and links, with the keys and values
 abbrev pub lent : ℕ → Begun × (List ℕ × List ℕ) → Begun × Arrays
-lent c (b, (vs, ls)) = (b, record { versions = vs; links = ls; keys = zeros c; values = zeros c })
+lent c (b, (vs, ls)) = (b, record { versions = vs; links = ls; keys = nines c; values = nines c })
 
--- a fresh table of C elements over zeros
+-- a fresh table of C elements over nines
 unfoldable pub room : ℕ → Table
-room c = begun (header 0 0 0) (lent c (fresh (zeros (c + 1)) (zeros (c + 1)) (zeros c) (zeros c))) .1
+room c = begun (header 0 0 0) (lent c (fresh (nines (c + 1)) (nines (c + 1)) (nines c) (nines c))) .1
 
 -- ---- the table of spells
 
