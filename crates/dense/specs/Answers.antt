@@ -50,10 +50,12 @@ abbrev pub begunOf : Started → Begun
 begunOf (started.With h) = begins h
 begunOf (started.Refused r) = cannot (numberOf r)
 
-abbrev pub slotJudged : Slot → Judged
-slotJudged (slot.At i) = found i
-slotJudged (slot.Refused r) = fails (numberOf r)
-
 abbrev pub doneSaid : Verdict → Said
 doneSaid verdict.Done = said-done
 doneSaid (verdict.Refused r) = refused (numberOf r)
+
+-- ---- for private functions
+
+abbrev pub slotJudged : Slot → Judged
+slotJudged (slot.At i) = found i
+slotJudged (slot.Refused r) = fails (numberOf r)

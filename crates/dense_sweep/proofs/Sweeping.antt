@@ -12,7 +12,7 @@ use Rattle.table.specs.Table.{Table, key, val, last}
 use Rattle.table.specs.Calls.{Out, remove, drain}
 use Rattle.table.specs.Sound.{Sound}
 use Rattle.table.specs.Sweeps.{retaining, clearing}
-use Rattle.table.proofs.Frames.{SameLengths}
+use Rattle.table.specs.Frames.{SameLengths}
 use Rattle.table.proofs.Cases.{drain-some}
 use Rattle.table.proofs.Sieve.{dropped, dropped-leaves, dropped-sound, drop-removes}
 

@@ -22,9 +22,9 @@ use Rattle.keys.proofs.Keys.{pack-same, read-pack, read-is, is-read}
 use Rattle.records.specs.declared.Record.{Record}
 use Rattle.records.specs.Records.{versionOf}
 use Rattle.table.specs.Table.{Table}
-use Rattle.table.specs.Reading.{Reading, valueIn, isIn}
-use Rattle.table.proofs.Readings.{keysOf, none-value, mem-value}
-use Rattle.table.proofs.Begins.{Begins}
+use Rattle.table.specs.Reading.{Reading, valueIn, isIn, keysOf}
+use Rattle.table.specs.Begins.{Begins}
+use Rattle.table.proofs.Readings.{none-value, mem-value}
 use Rattle.image.specs.Rebuild.{slotIn, valueOf, isFull, keyIn, valIn, rebuilt}
 use Rattle.image.proofs.Slots.{full-low}
 use Rattle.image.proofs.Rebuilt.{Given, small, word-at, full-odd, sound-rebuilt}

@@ -19,11 +19,11 @@ use Rattle.records.specs.declared.Record.{Record}
 use Rattle.records.specs.Records.{versionOf}
 use Rattle.table.specs.Table.{Table, ver, link, key, val, isLive, isDetached}
 use Rattle.table.specs.Calls.{said-value, Out, lookup}
+use Rattle.table.specs.Begins.{find, valueOr}
 use Rattle.table.proofs.Judged.{Live, live}
 use Rattle.table.proofs.Facts.{facts-live, not-detached}
 use Rattle.table.proofs.Cases.{lookup-live, lookup-dead}
-use Rattle.table.proofs.Follows.{find, find-live, find-dead}
-use Rattle.table.proofs.Promises.{valueOr}
+use Rattle.table.proofs.Follows.{find-live, find-dead}
 use Rattle.table.proofs.Thread.{next-high}
 use Rattle.image.specs.Rebuild.{slotIn, valueOf, isFull, isBare, valIn, rebuilt}
 use Rattle.image.proofs.Slots.{by-record, full-low, vacant-link, occupied-link, occupied-full}

@@ -27,11 +27,12 @@ use Rattle.records.proofs.Images.{read-written, written-read, Accepted}
 use Rattle.table.specs.Table.{Table, ver, link, val, isLive, lengthsFit}
 use Rattle.table.specs.Calls.{begins}
 use Rattle.table.specs.Sound.{Sound, isOdd}
+use Rattle.table.specs.Begins.{find}
 use Rattle.table.proofs.Shape.{Lengths, lengths, shape}
 use Rattle.table.proofs.Judged.{Live, live}
 use Rattle.table.proofs.Facts.{facts-live}
 use Rattle.table.proofs.Orderly.{Orderly, orderly}
-use Rattle.table.proofs.Follows.{find, find-live, find-dead}
+use Rattle.table.proofs.Follows.{find-live, find-dead}
 use Rattle.image.specs.Image.{slotOf, imageOf, imageBytes}
 use Rattle.image.specs.Rebuild.{firstWrong, fitting, judgedImage, slotIn, valueOf, rebuilt, arraysOf, rebuiltFrom, rebuild}
 use Rattle.image.proofs.Faults.{fitting-same, fitting-told}

@@ -14,7 +14,8 @@ use Rattle.lists.specs.Count.{count}
 use Rattle.lists.specs.Listed.{listed, picked}
 use Rattle.lists.proofs.Tests.{split, true-false}
 use Rattle.lists.proofs.Count.{count-yes, count-no}
-use Rattle.lists.proofs.Once.{Once, once-nil, once-cons, once-append, getD-mem}
+use Rattle.lists.specs.Once.{Once}
+use Rattle.lists.proofs.Once.{once-nil, once-cons, once-append, getD-mem}
 
 -- ---- counts
 

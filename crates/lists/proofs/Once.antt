@@ -10,11 +10,8 @@ use lib.ListN.{length, getD}
 use lib.Dec.{eqb}
 use borrow.Author.Tests.{eq-eqb, ne-eqb}
 use Rattle.lists.specs.Count.{count}
+use Rattle.lists.specs.Once.{Once}
 use Rattle.lists.proofs.Count.{always, always-true, count-always, count-inj}
-
-pub Once : List ℕ → Type 0
-Once [] = Unit {0}
-Once (x ∷ xs) = (List·Memᴰ x xs → ⊥) × Once xs
 
 pub once-head : (x : ℕ) (xs : List ℕ) → Once (x ∷ xs) → List·Memᴰ x xs → ⊥
 unfolding Once
@@ -64,6 +61,12 @@ place-at (y ∷ l) x m =
     (λ ne.
     let r = place-at l x (⊎-elim (λ e. absurd (ne e)) (λ q. q) (List·Memᴰ·cases-cons m)) in
     rw (ne-eqb x y ne) (omega (arith, r .0), r .1))
+
+pub inj-once : (l : List ℕ) → ((p q : ℕ) → p < length l → q < length l → getD l p 0 ≡ getD l q 0 → p ≡ q) → Once l
+inj-once [] h = once-nil
+inj-once (x ∷ l) h =
+    once-cons x l (λ m. let r = place-at l x m in omega (arith, h 0 (suc (place l x)) (omega arith) (omega (arith, r .0)) (sym (r .1))))
+    (inj-once l (λ p q hp hq e. omega (arith, h (suc p) (suc q) (omega arith) (omega arith) e)))
 
 pub mem-dec : (x : ℕ) (l : List ℕ) → Dec (List·Memᴰ x l)
 mem-dec x [] = no (λ m. List·Memᴰ·not-nil m)

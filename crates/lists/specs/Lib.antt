@@ -2,3 +2,4 @@ pub mod Count
 pub mod Put
 pub mod Listed
 pub mod Among
+pub mod Once

@@ -11,7 +11,8 @@ use lib.ListN.{length, getD}
 use borrow.Author.Tests.{leb-true}
 use Rattle.lists.specs.Put.{put}
 use Rattle.lists.proofs.Tests.{split, true-false}
-use Rattle.lists.proofs.Once.{Once, once-nil, once-cons}
+use Rattle.lists.specs.Once.{Once}
+use Rattle.lists.proofs.Once.{once-nil, once-cons}
 use Rattle.lists.proofs.Put.{getD-put-after}
 use Rattle.keys.specs.Keys.{idx, version, asRead}
 use Rattle.keys.proofs.Keys.{is-read, idx-read, version-read, read-read}

@@ -6,7 +6,7 @@ ghost use Rattle.refusal.specs.Refusals.{numberOf};
 pub enum Refusal {
     // 1: the shape of the lent arrays and the header does not hold.
     Shape,
-    // 2: the key is not live.
+    // 2: the key is not live, or is repeated in a list.
     Dead,
     // 3: every slot is taken and the arrays are full.
     Full,

@@ -9,16 +9,18 @@ use mathlib.Core.Option.{none}
 use Prim.Native.Nat.{ℕ, _+_, _*_, _≤_}
 use lib.ListN.{length}
 use Rattle.keys.specs.Keys.{asRead}
+use Rattle.table.specs.declared.Header.{Header}
 use Rattle.table.specs.Table.{Table, cap, lengthsFit}
-use Rattle.table.specs.Calls.{said-key, said-done, said-count, refused, freshTable, len}
+use Rattle.table.specs.Calls.{said-key, said-done, said-count, refused, begins, freshHead, fresh, freshTable}
 use Rattle.table.specs.Sound.{Sound}
 use Rattle.table.specs.Steps.{Call, c-lookup, c-insert, c-remove, c-detach, c-reattach, step, after, history}
 use Rattle.table.specs.Reading.{Reading, reading, valueIn, isIn}
-use Rattle.table.proofs.Begins.{Begins, begins-after}
+use Rattle.table.specs.Begins.{Begins, valueOr}
+use Rattle.table.proofs.Begins.{begins-after}
 use Rattle.table.proofs.Keeps.{sound-fresh, sound-after}
-use Rattle.table.proofs.Promises.{valueOr, lookup-reads, remove-reads, detach-reads, reattach-reads, insert-new}
+use Rattle.table.proofs.Promises.{lookup-reads, remove-reads, detach-reads, reattach-reads, insert-new}
 use Rattle.table.proofs.Counted.{insert-reads}
-use Rattle.table.proofs.Listed.{count-reads}
+use Rattle.table.proofs.Listed.{len-reads}
 use Rattle.table.proofs.Undamaged.{no-damage}
 use Rattle.commands.specs.Lines.{Asked, asks, asks-len, rejects, asked}
 use Rattle.script_act.specs.Acts.{answered}
@@ -73,9 +75,9 @@ module _ (t : Table) (base : Reading) (b : Begins t base) (cs : List Call) (l : 
   unfolding step
   reattach-answers {k} {x} e = called-said e ∙ reattach-reads t base b cs k x
 
-  -- `i`: a key that neither lives nor is detached; 3 exactly where the live and the detached together are C
+  -- `i`: a key, as it is read, that neither lives nor is detached; 3 exactly where the live and the detached together are C
   pub insert-answers : {x : ℕ} (k : ℕ) → asked l ≡ asks (c-insert x) → answered (after t cs) (asked l) .0 ≡ said-key k
-      → (valueIn (reading base (history t cs) .live) k ≡ none) × (isIn (reading base (history t cs) .detached) k ≡ false)
+      → (asRead k ≡ k) × (valueIn (reading base (history t cs) .live) k ≡ none) × (isIn (reading base (history t cs) .detached) k ≡ false)
   unfolding step
   insert-answers {x} k e f = insert-new t base b cs x k (sym (called-said e) ∙ f)
 
@@ -86,8 +88,8 @@ module _ (t : Table) (base : Reading) (b : Begins t base) (cs : List Call) (l : 
 
   -- `l`: how many keys live
   pub len-answers : asked l ≡ asks-len → answered (after t cs) (asked l) .0 ≡ said-count (length (reading base (history t cs) .live))
-  unfolding answered len
-  len-answers e = rw (e, begins-after t base b cs .sound .shape) (ap said-count (count-reads t base b cs))
+  unfolding answered
+  len-answers e = rw e (len-reads t base b cs)
 
   -- no call of a script finds the table damaged
   pub never-damaged : {c : Call} → asked l ≡ asks c → answered (after t cs) (asked l) .0 ≡ refused 5 → ⊥
@@ -96,17 +98,17 @@ module _ (t : Table) (base : Reading) (b : Begins t base) (cs : List Call) (l : 
 -- ---- the whole input, from a fresh table, in any parts
 
 -- a table of the script's capacity can begin
-pub capacity-fits : (vs ls ks xs : List ℕ) → length vs ≡ capacity + 1 → length ls ≡ capacity + 1 → length ks ≡ capacity → length xs ≡ capacity → lengthsFit vs ls ks xs ≡ true
-unfolding lengthsFit
+pub capacity-fits : (vs ls ks xs : List ℕ) → length vs ≡ capacity + 1 → length ls ≡ capacity + 1 → length ks ≡ capacity → length xs ≡ capacity → fresh vs ls ks xs .0 ≡ begins freshHead
+unfolding fresh lengthsFit
 capacity-fits vs ls ks xs v l k x = rw (k, v, l, x)
 
-module _ (vs ls ks xs line out : List ℕ) (k : ℕ) (parts : List (List ℕ)) (long : held ≤ length line) (some : 1 ≤ k) (room-for : k * room ≤ length out)
+module _ (vs ls ks xs : List ℕ) (h : Header) (line out : List ℕ) (k : ℕ) (parts : List (List ℕ)) (long : held ≤ length line) (some : 1 ≤ k) (room-for : k * room ≤ length out)
     (short : areWithin k parts ≡ true) where
-  pub parts-table : fedAll (machine (freshTable vs ls ks xs) 0 line out) parts .1 ≡ after (freshTable vs ls ks xs) (called [] (lines (flatten parts)))
+  pub parts-table : fedAll (machine (freshTable vs ls ks xs h) 0 line out) parts .1 ≡ after (freshTable vs ls ks xs h) (called [] (lines (flatten parts)))
   unfolding after
   parts-table =
-      ap (λ (p : List ℕ × Table). p .1) (parts-printed (freshTable vs ls ks xs) line out k parts long some room-for short)
-      ∙ printed-table (freshTable vs ls ks xs) (lines (flatten parts)) []
+      ap (λ (p : List ℕ × Table). p .1) (parts-printed (freshTable vs ls ks xs h) line out k parts long some room-for short)
+      ∙ printed-table (freshTable vs ls ks xs h) (lines (flatten parts)) []
 
-  pub parts-sound : lengthsFit vs ls ks xs ≡ true → Sound (fedAll (machine (freshTable vs ls ks xs) 0 line out) parts .1)
-  parts-sound f = subst Sound (sym parts-table) (sound-after _ (sound-fresh vs ls ks xs f) (called [] (lines (flatten parts))))
+  pub parts-sound : fresh vs ls ks xs .0 ≡ begins h → Sound (fedAll (machine (freshTable vs ls ks xs h) 0 line out) parts .1)
+  parts-sound e = subst Sound (sym parts-table) (sound-after _ (sound-fresh vs ls ks xs h e) (called [] (lines (flatten parts))))

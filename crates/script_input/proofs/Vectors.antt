@@ -5,7 +5,7 @@ use Prim.Native.Nat.{ℕ}
 use Rattle.keys.specs.Keys.{version}
 use Rattle.text.specs.Text.{digits, digitOf, keyText}
 use Rattle.table.specs.Table.{Table, lengthsFit, hasShape, isLive, dead, isHeld, lastInRange, headIsFree, entered, freed, filled, left}
-use Rattle.table.specs.Calls.{freshTable, len, placeIn, place, lookup, nextIn, next, inserted, insert, leaving, remove}
+use Rattle.table.specs.Calls.{freshHead, fresh, freshTable, len, placeIn, place, lookup, nextIn, next, inserted, insert, leaving, remove}
 use Rattle.table.specs.Steps.{step}
 use Rattle.fields.specs.Fields.{numberAt, fieldAt}
 use Rattle.commands.specs.Lines.{keyIn, asked}
@@ -14,7 +14,7 @@ use Rattle.script.specs.Script.{answerText, lineOut}
 use Rattle.script_input.specs.Input.{linesFrom, printedLines, printed}
 
 table : Table
-table = freshTable (9 ∷ 9 ∷ 9 ∷ 9 ∷ []) (9 ∷ 9 ∷ 9 ∷ 9 ∷ []) (9 ∷ 9 ∷ 9 ∷ []) (9 ∷ 9 ∷ 9 ∷ [])
+table = freshTable (9 ∷ 9 ∷ 9 ∷ 9 ∷ []) (9 ∷ 9 ∷ 9 ∷ 9 ∷ []) (9 ∷ 9 ∷ 9 ∷ []) (9 ∷ 9 ∷ 9 ∷ []) freshHead
 
 -- `i 7`, `i 300`, `r 1 1`, `g 1 1`, `i 9`, `l`, the last without its newline
 input : List ℕ
@@ -27,7 +27,7 @@ output =
     49 ∷ 118 ∷ 49 ∷ 10 ∷ 50 ∷ 118 ∷ 49 ∷ 10 ∷ 55 ∷ 10 ∷ 114 ∷ 101 ∷ 102 ∷ 117 ∷ 115 ∷ 101 ∷ 100 ∷ 32 ∷ 50 ∷ 10 ∷ 49 ∷ 118 ∷ 51 ∷ 10 ∷ 50 ∷ 10 ∷ []
 
 whole-case : printed table input .0 ≡ output
-unfolding linesFrom printedLines answered answerText lineOut step asked numberAt fieldAt keyIn digitOf digits keyText version freshTable len placeIn place lookup nextIn next inserted insert leaving remove lengthsFit hasShape isLive dead isHeld lastInRange headIsFree entered freed filled left table input output
+unfolding linesFrom printedLines answered answerText lineOut step asked numberAt fieldAt keyIn digitOf digits keyText version fresh len placeIn place lookup nextIn next inserted insert leaving remove lengthsFit hasShape isLive dead isHeld lastInRange headIsFree entered freed filled left table input output
 whole-case = refl
 
 -- an empty line is 17, and what comes after the last newline is no line

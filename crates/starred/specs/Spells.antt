@@ -1,15 +1,17 @@
 -- The starred spells (the rules, section "Spells to replay"): moves on the definitions of the table, and what each shows. Assumes nothing.
 use mathlib.Core.List.{List, [], _∷_}
 use Prim.Native.Nat.{ℕ, _+_}
+use lib.ListN.{take}
 use Rattle.lists.specs.Listed.{listed}
 use Rattle.keys.specs.declared.KeyData.{KeyData}
 use Rattle.keys.specs.Keys.{keyOf}
 use Rattle.numbers.specs.Told as told
 use Rattle.table.specs.declared.Header.{Header}
 use Rattle.table.specs.Table.{Table, ver}
-use Rattle.table.specs.Calls.{Said, Out, freshTable, insert, nextKey, remove, detach, reattach}
-use Rattle.image.specs.Image.{imageBytes}
-use Rattle.image.specs.Rebuild.{rebuiltFrom}
+use Rattle.table.specs.Calls.{Said, Out, Begun, fresh, insert, nextKey, remove, detach, reattach}
+use Rattle.table.specs.Calls as calls
+use Rattle.image.specs.Image.{writeImage}
+use Rattle.image.specs.Rebuild.{Arrays, rebuild}
 
 -- ---- moves, and what they show
 
@@ -32,13 +34,29 @@ pub data Shown : Type 0 where
   key : KeyData → Shown
   version : ℕ → Shown
 
+abbrev pub header : ℕ → ℕ → ℕ → Header
+header n s f = record { n = n; s = s; f = f }
+
 abbrev pub answered : Out → Shown × Table
 answered (said, t) = (answers said, t)
 
--- an image's table takes the old one's place; a faulty image changes nothing
-abbrev pub begun : Table → told.Told Table → Shown × Table
-begun t (told.tells u) = (begins (u .head), u)
-begun t (told.refused r) = (faulty r, t)
+-- the part of the buffer that was written; or the refusal
+abbrev pub wrote : told.Told ℕ × List ℕ → Shown
+wrote (told.tells n, out) = image (take n out)
+wrote (told.refused r, out) = faulty r
+
+-- arrays with a header
+abbrev pub with : Arrays → Header → Table
+with a h = record { versions = a .versions; links = a .links; keys = a .keys; values = a .values; head = h }
+
+-- a table that begins has the header that is answered; where that is a refusal, the header stays
+abbrev pub begun : Header → Begun × Arrays → Shown × Table
+begun h (calls.begins g, a) = (begins g, with a g)
+begun h (calls.cannot r, a) = (faulty r, with a h)
+
+-- what arrays and buffers hold before
+abbrev pub nines : ℕ → List ℕ
+nines m = listed (λ i. 9) m
 
 unfoldable pub moved : Table → Move → Shown × Table
 moved t (inserts x) = answered (insert t x)
@@ -46,8 +64,8 @@ moved t asks-next = (answers (nextKey t), t)
 moved t (removes k) = answered (remove t k)
 moved t (detaches k) = answered (detach t k)
 moved t (reattaches k x) = answered (reattach t k x)
-moved t writes-image = (image (imageBytes t), t)
-moved t (rebuilds bytes) = begun t (rebuiltFrom (t .versions) (t .links) (t .keys) (t .values) bytes)
+moved t writes-image = (wrote (writeImage t (nines 16)), t)
+moved t (rebuilds bytes) = begun (t .head) (rebuild (t .versions) (t .links) (t .keys) (t .values) bytes)
 moved t (reads-key k) = (key (keyOf k), t)
 moved t (looks-at i) = (version (ver t i), t)
 
@@ -55,9 +73,13 @@ unfoldable pub shown : Table → List Move → List Shown
 shown t [] = []
 shown t (m ∷ ms) = moved t m .0 ∷ shown (moved t m .1) ms
 
--- a fresh table of C elements over zeros
+-- what fresh leaves of the versions and links, with the keys and values
+abbrev pub lent : ℕ → Begun × (List ℕ × List ℕ) → Begun × Arrays
+lent c (b, (vs, ls)) = (b, record { versions = vs; links = ls; keys = nines c; values = nines c })
+
+-- a fresh table of C elements over nines
 unfoldable pub room : ℕ → Table
-room c = freshTable (listed (λ i. 0) (c + 1)) (listed (λ i. 0) (c + 1)) (listed (λ i. 0) c) (listed (λ i. 0) c)
+room c = begun (header 0 0 0) (lent c (fresh (nines (c + 1)) (nines (c + 1)) (nines c) (nines c))) .1
 
 -- ---- the table of spells
 
@@ -66,9 +88,6 @@ pub record Spell : Type 0 where
   pub cap : ℕ
   pub moves : List Move
   pub expected : List Shown
-
-abbrev pub header : ℕ → ℕ → ℕ → Header
-header n s f = record { n = n; s = s; f = f }
 
 -- "fresh image is 01 00 00"
 abbrev pub fresh-image : Spell
@@ -80,13 +99,14 @@ abbrev pub two-spells : Spell
 two-spells =
     record {
       cap = 2;
-      moves = inserts 7 ∷ inserts 300 ∷ writes-image ∷ removes 4294967297 ∷ writes-image ∷ inserts 9 ∷ reads-key 12884901889 ∷ [];
+      moves = inserts 7 ∷ inserts 300 ∷ writes-image ∷ removes 4294967297 ∷ writes-image ∷ asks-next ∷ inserts 9 ∷ reads-key 12884901889 ∷ [];
       expected =
           answers (Said.said-key 4294967297)
           ∷ answers (Said.said-key 4294967298)
           ∷ image (3 ∷ 0 ∷ 0 ∷ 1 ∷ 1 ∷ 7 ∷ 1 ∷ 1 ∷ 172 ∷ 2 ∷ [])
           ∷ answers (Said.said-value 7)
           ∷ image (3 ∷ 0 ∷ 0 ∷ 2 ∷ 0 ∷ 1 ∷ 1 ∷ 172 ∷ 2 ∷ [])
+          ∷ answers (Said.said-key 12884901889)
           ∷ answers (Said.said-key 12884901889)
           ∷ key (record { idx = 1; version = 3 })
           ∷ [];

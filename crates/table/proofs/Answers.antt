@@ -5,21 +5,22 @@ use mathlib.Core.Bool.{false}
 use Prim.Native.Nat.{ℕ, _+_, _%_, _<_}
 use native.Mathlib.Omega.{arith}
 use Rattle.keys.specs.Keys.{far, idx, pack, version, asRead}
-use Rattle.keys.proofs.Keys.{version-odd, version-word, is-read, idx-read}
+use Rattle.keys.proofs.Keys.{version-odd, version-word, is-read, idx-read, read-pack}
 use Rattle.rules.specs.Rules.{keepsOf}
 use Rattle.table.specs.Table.{Table, ver, link, last}
 use Rattle.table.specs.Calls.{refused, Out}
 use Rattle.table.specs.Sound.{Sound}
 use Rattle.table.specs.Steps.{Call, c-lookup, c-put, c-insert, c-remove, c-detach, c-reattach, c-drain, c-retain, c-clear, step}
 use Rattle.table.specs.Reading.{nothing, change}
+use Rattle.table.specs.Begins.{find, away}
 use Rattle.table.proofs.Changes.{livesAfter, detachedAfter}
 use Rattle.table.proofs.Orderly.{Orderly, orderly}
 use Rattle.table.proofs.Leave.{without-leaves, without-link, apart-leaves, apart-link}
 use Rattle.table.proofs.Enter.{head-free, taken-widens, taken-enters, grown-widens, grown-enters, rejoined-widens, rejoined-enters}
-use Rattle.table.proofs.Cases.{live-occupied, detached-vacant}
+use Rattle.table.proofs.Cases.{live-occupied, detached-vacant, stored-read}
 use Rattle.table.proofs.Outcomes.{Outcome, outcome, refuses, looks, puts, takes, grows, removes, detaches, reattaches, drains, done, retains, clears}
 use Rattle.table.proofs.Sieve.{retained, cleared}
-use Rattle.table.proofs.Follows.{find, away, find-leave, away-freed, away-parted, find-enter, away-new, away-back, find-put, away-put, Sieves, sieves-same, find-dropped, away-dropped, sieves-drop}
+use Rattle.table.proofs.Follows.{find-leave, away-freed, away-parted, find-enter, away-new, away-back, find-put, away-put, Sieves, sieves-same, find-dropped, away-dropped, sieves-drop}
 
 -- ---- each call's own reading
 
@@ -59,14 +60,16 @@ module _ (t : Table) (a : Sound t) (k : ℕ) where
   outcome-follows c r (puts j x l) = (find-put t o j x l k, away-put t o j x l k)
   outcome-follows c r (takes x h) =
       let e = head-free t o h in
-      let od : (ver t (t .head .f) + 1) % 2 ≡ 1 = omega (arith, e .vacant .even) in (
+      let od : (ver t (t .head .f) + 1) % 2 ≡ 1 = omega (arith, e .vacant .even) in
+      rw (read-pack (t .head .f) (ver t (t .head .f) + 1) (omega (arith, o .shape)) (omega (arith, e .vacant .even, a .words (t .head .f) h)) od) (
         find-enter t _ o _ _ x od (taken-widens t o x h) (taken-enters t o x h) k,
         away-new t _ o _ _ x od (taken-widens t o x h) (taken-enters t o x h) k (free-far h),
       )
-  outcome-follows c r (grows x h p) = (
-    find-enter t _ o _ 1 x refl (grown-widens t o x h p) (grown-enters t o x h p) k,
-    away-new t _ o _ 1 x refl (grown-widens t o x h p) (grown-enters t o x h p) k (λ l. absurd (omega (arith, l))),
-  )
+  outcome-follows c r (grows x h p) =
+      rw (read-pack (t .head .s) 1 (omega (arith, o .shape)) (omega arith) refl) (
+        find-enter t _ o _ 1 x refl (grown-widens t o x h p) (grown-enters t o x h p) k,
+        away-new t _ o _ 1 x refl (grown-widens t o x h p) (grown-enters t o x h p) k (λ l. absurd (omega (arith, l))),
+      )
   outcome-follows c r (removes j l) =
       let oj = live-occupied t a j l in
       rw (← read j) (find-leave t _ o (idx j) (version j) oj (l .same) (without-leaves t o _ oj) k, away-freed t _ o (idx j) (version j) oj (l .same) (without-leaves t o _ oj) k (without-link t o _ oj))
@@ -79,7 +82,8 @@ module _ (t : Table) (a : Sound t) (k : ℕ) where
         find-enter t _ o (idx j) (version j) x (version-odd j) (rejoined-widens t o _ _ x v (d .away)) (rejoined-enters t o _ _ x v (d .away)) k,
         away-back t _ o (idx j) (version j) x (version-odd j) (rejoined-widens t o _ _ x v (d .away)) (rejoined-enters t o _ _ x v (d .away)) k (version-word j) (d .same),
       )
-  outcome-follows c r (drains h) = (find-dropped t a (last t) (omega arith) k, away-dropped t a (last t) (omega arith) k)
+  outcome-follows c r (drains h) =
+      rw (stored-read t a (last t) (omega arith)) (find-dropped t a (last t) (omega arith) k, away-dropped t a (last t) (omega arith) k)
   outcome-follows c r (done h) = (refl, refl)
   outcome-follows c r (retains rule) =
       rw idx-read (retained (keepsOf rule) (Sieves (keepsOf rule)) (sieves-same (keepsOf rule)) (sieves-drop (keepsOf rule)) t a k)

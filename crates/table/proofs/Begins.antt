@@ -9,24 +9,27 @@ use Prim.Native.Nat.{ℕ, _+_, _%_, _<_}
 use native.Mathlib.Omega.{arith}
 use Rattle.lists.specs.Among.{among}
 use Rattle.lists.proofs.Tests.{split}
-use Rattle.lists.proofs.Once.{Once, once-nil, sublist-mem}
+use Rattle.lists.proofs.Once.{once-nil, sublist-mem}
 use Rattle.keys.specs.Keys.{W, idx, pack, version, asRead}
 use Rattle.keys.proofs.Keys.{version-odd, idx-pack, read-pack, version-pack, read-read}
-use Rattle.table.specs.Table.{Table, ver, link, key, val, lengthsFit, isLive, isDetached, last}
-use Rattle.table.specs.Calls.{Out, freshTable}
+use Rattle.table.specs.declared.Header.{Header}
+use Rattle.table.specs.Table.{Table, ver, link, key, val, isLive, last}
+use Rattle.table.specs.Calls.{said-key, refused, Out, begins, fresh, freshTable, insert}
 use Rattle.table.specs.Sound.{Sound}
 use Rattle.table.specs.Steps.{Call, step, after, history}
-use Rattle.table.specs.Reading.{Change, nothing, issued, returned, revalued, dies, parts, sieved, change, Reading, blank, changed, reading, valueIn, isIn}
+use Rattle.table.specs.Reading.{Change, nothing, issued, returned, revalued, dies, parts, sieved, change, Reading, blank, changed, reading, valueIn, isIn, keysOf}
+use Rattle.table.specs.Begins.{find, away, Begins}
 use Rattle.table.proofs.Changes.{livesAfter, detachedAfter}
-use Rattle.table.proofs.Readings.{keysOf, mem-value, mem-in, value-changed, detached-changed, NewKey, once-changed, once-detached, without-sublist, sifted-sublist, valued-sublist, except-sublist}
+use Rattle.table.proofs.Readings.{mem-value, mem-in, value-changed, detached-changed, NewKey, once-changed, once-detached, without-sublist, sifted-sublist, valued-sublist, except-sublist}
+use Rattle.table.proofs.Refused.{fresh-begun}
 use Rattle.table.proofs.Judged.{Live, live}
 use Rattle.table.proofs.Facts.{Detached, detached-facts, facts-detached, not-detached}
 use Rattle.table.proofs.Orderly.{Orderly, orderly}
 use Rattle.table.proofs.Enter.{head-free}
-use Rattle.table.proofs.Cases.{stored-read, stored-live}
+use Rattle.table.proofs.Cases.{stored-live, insert-ways, insert-taken, insert-grown, insert-full}
 use Rattle.table.proofs.Outcomes.{Outcome, outcome, refuses, looks, puts, takes, grows, removes, detaches, reattaches, drains, done, retains, clears}
 use Rattle.table.proofs.Keeps.{sound-fresh, sound-step}
-use Rattle.table.proofs.Follows.{find, away, find-live, find-dead, find-not, find-read, away-read}
+use Rattle.table.proofs.Follows.{find-live, find-dead, find-not, find-read, away-read}
 use Rattle.table.proofs.Answers.{change-refused, step-follows}
 
 -- ---- what a change says of the key that it names
@@ -70,15 +73,15 @@ module _ (t : Table) (a : Sound t) where
       }
 
   -- the key of a slot's index i and version v, where that slot is neither at this version nor detached
-  absent-pack : (i v : ℕ) → i < W → v < W → v % 2 ≡ 1 → (Live t i v → ⊥) → (Detached t i v → ⊥) → Absent t (pack i v) false
-  absent-pack i v hi hv od nl nd =
+  absent-read : (i v : ℕ) → i < W → v < W → v % 2 ≡ 1 → (Live t i v → ⊥) → (Detached t i v → ⊥) → Absent t (asRead (pack i v)) false
+  absent-read i v hi hv od nl nd =
       let ei : idx (pack i v) ≡ i = idx-pack i v hi in
       let ev : version (pack i v) ≡ v = version-pack i v hi hv od in
-      record {
+      rw (read-pack i v hi hv od) (record {
         read = read-pack i v hi hv od;
         lost = find-not t (pack i v) (λ l. nl (rw (ei, ev) at l));
         whether-away = not-detached t _ _ (λ d. nd (rw (ei, ev) at d));
-      }
+      })
 
   outcome-fits : (c : Call) (r : Out) → Outcome t c r → Fits t (change c (r .0))
   unfolding change
@@ -87,10 +90,10 @@ module _ (t : Table) (a : Sound t) where
   outcome-fits c r (puts j x l) = live-lives j l
   outcome-fits c r (takes x h) =
       let e = head-free t o h in
-      absent-pack (t .head .f) (ver t (t .head .f) + 1) (omega (arith, o .shape)) (omega (arith, e .vacant .even, a .words (t .head .f) h)) (omega (arith, e .vacant .even))
+      absent-read (t .head .f) (ver t (t .head .f) + 1) (omega (arith, o .shape)) (omega (arith, e .vacant .even, a .words (t .head .f) h)) (omega (arith, e .vacant .even))
       (λ l. omega (arith, l .same)) (λ d. omega (arith, d .away, e, o .shape))
   outcome-fits c r (grows x h p) =
-      absent-pack (t .head .s) 1 (omega (arith, o .shape)) (omega arith) refl (λ l. omega (arith, l .high)) (λ d. omega (arith, d .high))
+      absent-read (t .head .s) 1 (omega (arith, o .shape)) (omega arith) refl (λ l. omega (arith, l .high)) (λ d. omega (arith, d .high))
   outcome-fits c r (removes j l) = live-lives j l
   outcome-fits c r (detaches j l) = live-lives j l
   outcome-fits c r (reattaches j x d) =
@@ -99,9 +102,7 @@ module _ (t : Table) (a : Sound t) where
         lost = sym (find-read t j) ∙ find-not t j (λ l. omega (arith, l .same, d .same, version-odd j));
         whether-away = sym (away-read t j) ∙ facts-detached t _ _ d;
       }
-  outcome-fits c r (drains h) =
-      let l : last t < t .head .n = omega arith in
-      subst (Lives t) (stored-read t a (last t) l) (live-lives (key t (last t)) (stored-live t a (last t) l))
+  outcome-fits c r (drains h) = live-lives (key t (last t)) (stored-live t a (last t) (omega arith))
   outcome-fits c r (done h) = tt
   outcome-fits c r (retains rule) = tt
   outcome-fits c r clears = tt
@@ -109,26 +110,35 @@ module _ (t : Table) (a : Sound t) where
   pub step-fits : (c : Call) → Fits t (change c (step t c .0))
   step-fits c = outcome-fits c (step t c) (outcome t a c)
 
--- ---- a table reads as a base
+  -- ---- the key that an insert answers is as it is read
 
-pub record Begins (t : Table) (base : Reading) : Type 0 where
-  pub sound : Sound t
-  -- the same keys live, with the same values, and the same are detached
-  pub finds : (k : ℕ) → find t k ≡ valueIn (base .live) (asRead k)
-  pub aways : (k : ℕ) → isDetached t (idx k) (version k) ≡ isIn (base .detached) (asRead k)
-  -- each key stands there once, as read
-  pub live-once : Once (keysOf (base .live))
-  pub live-read : (k : ℕ) → List·Memᴰ k (keysOf (base .live)) → asRead k ≡ k
-  pub detached-once : Once (base .detached)
-  pub detached-read : (k : ℕ) → List·Memᴰ k (base .detached) → asRead k ≡ k
+  pub insert-read : (x k : ℕ) → insert t x .0 ≡ said-key k → asRead k ≡ k
+  insert-read x k e =
+      insert-ways t a
+      (λ h.
+      let f = head-free t o h in
+      let p : insert t x .0 ≡ said-key (pack (t .head .f) (ver t (t .head .f) + 1)) = ap (λ (r : Out). r .0) (insert-taken t a h x) in
+      let q : k ≡ pack (t .head .f) (ver t (t .head .f) + 1) = cc in
+      rw q (read-pack (t .head .f) _ (omega (arith, o .shape)) (omega (arith, f .vacant .even, a .words (t .head .f) h)) (omega (arith, f .vacant .even))))
+      (λ g c.
+      let p : insert t x .0 ≡ said-key (pack (t .head .s) 1) = ap (λ (r : Out). r .0) (insert-grown t a g x c) in
+      let q : k ≡ pack (t .head .s) 1 = cc in
+      rw q (read-pack (t .head .s) 1 (omega (arith, o .shape)) (omega arith) refl))
+      (λ g c.
+      let p : insert t x .0 ≡ refused 3 = ap (λ (r : Out). r .0) (insert-full t a g x c) in
+      let z : _≡_ {A = ℕ} 0 1 = cc in
+      absurd (omega arith))
 
-pub fresh-begins : (vs ls ks xs : List ℕ) → lengthsFit vs ls ks xs ≡ true → Begins (freshTable vs ls ks xs) blank
-unfolding freshTable valueIn among
-fresh-begins vs ls ks xs fit =
+-- ---- a fresh table reads as nothing
+
+pub fresh-begins : (vs ls ks xs : List ℕ) (h : Header) → fresh vs ls ks xs .0 ≡ begins h → Begins (freshTable vs ls ks xs h) blank
+unfolding valueIn among
+fresh-begins vs ls ks xs h e =
+    let one : h .s ≡ 1 = ap (λ (g : Header). g .s) (fresh-begun vs ls ks xs h e .1) in
     record {
-      sound = sound-fresh vs ls ks xs fit;
-      finds = λ k. find-not (freshTable vs ls ks xs) k (λ l. omega (arith, l));
-      aways = λ k. not-detached (freshTable vs ls ks xs) _ _ (λ d. omega (arith, d .low, d .high));
+      sound = sound-fresh vs ls ks xs h e;
+      finds = λ k. find-not (freshTable vs ls ks xs h) k (λ l. omega (arith, one, l));
+      aways = λ k. not-detached (freshTable vs ls ks xs h) _ _ (λ d. omega (arith, one, d .low, d .high));
       live-once = once-nil;
       live-read = λ k m. absurd (List·Memᴰ·not-nil m);
       detached-once = once-nil;
@@ -168,25 +178,25 @@ module _ (t : Table) (base : Reading) (b : Begins t base) where
   begins-new (sieved keeps) f = tt
 
   -- the keys of a changed list were there or are named as read
-  live-reads : (c : Change) → Fits t c → (k : ℕ) → List·Memᴰ k (keysOf (changed c base .live)) → asRead k ≡ k
+  live-named : (c : Change) → Fits t c → (k : ℕ) → List·Memᴰ k (keysOf (changed c base .live)) → asRead k ≡ k
   unfolding changed
-  live-reads nothing f k m = b .live-read k m
-  live-reads (issued j x) f k m = ⊎-elim (λ e. rw e (f .read)) (b .live-read k) (List·Memᴰ·cases-cons m)
-  live-reads (returned j x) f k m = ⊎-elim (λ e. rw e (f .read)) (b .live-read k) (List·Memᴰ·cases-cons m)
-  live-reads (revalued j x) f k m = b .live-read k (sublist-mem (valued-sublist j x (base .live)) k m)
-  live-reads (dies j) f k m = b .live-read k (sublist-mem (without-sublist j (base .live)) k m)
-  live-reads (parts j) f k m = b .live-read k (sublist-mem (without-sublist j (base .live)) k m)
-  live-reads (sieved keeps) f k m = b .live-read k (sublist-mem (sifted-sublist keeps (base .live)) k m)
+  live-named nothing f k m = b .live-read k m
+  live-named (issued j x) f k m = ⊎-elim (λ e. rw e (f .read)) (b .live-read k) (List·Memᴰ·cases-cons m)
+  live-named (returned j x) f k m = ⊎-elim (λ e. rw e (f .read)) (b .live-read k) (List·Memᴰ·cases-cons m)
+  live-named (revalued j x) f k m = b .live-read k (sublist-mem (valued-sublist j x (base .live)) k m)
+  live-named (dies j) f k m = b .live-read k (sublist-mem (without-sublist j (base .live)) k m)
+  live-named (parts j) f k m = b .live-read k (sublist-mem (without-sublist j (base .live)) k m)
+  live-named (sieved keeps) f k m = b .live-read k (sublist-mem (sifted-sublist keeps (base .live)) k m)
 
-  detached-reads : (c : Change) → Fits t c → (k : ℕ) → List·Memᴰ k (changed c base .detached) → asRead k ≡ k
+  detached-named : (c : Change) → Fits t c → (k : ℕ) → List·Memᴰ k (changed c base .detached) → asRead k ≡ k
   unfolding changed
-  detached-reads nothing f k m = b .detached-read k m
-  detached-reads (issued j x) f k m = b .detached-read k m
-  detached-reads (returned j x) f k m = b .detached-read k (sublist-mem (except-sublist j (base .detached)) k m)
-  detached-reads (revalued j x) f k m = b .detached-read k m
-  detached-reads (dies j) f k m = b .detached-read k m
-  detached-reads (parts j) f k m = ⊎-elim (λ e. rw e (f .read)) (b .detached-read k) (List·Memᴰ·cases-cons m)
-  detached-reads (sieved keeps) f k m = b .detached-read k m
+  detached-named nothing f k m = b .detached-read k m
+  detached-named (issued j x) f k m = b .detached-read k m
+  detached-named (returned j x) f k m = b .detached-read k (sublist-mem (except-sublist j (base .detached)) k m)
+  detached-named (revalued j x) f k m = b .detached-read k m
+  detached-named (dies j) f k m = b .detached-read k m
+  detached-named (parts j) f k m = ⊎-elim (λ e. rw e (f .read)) (b .detached-read k) (List·Memᴰ·cases-cons m)
+  detached-named (sieved keeps) f k m = b .detached-read k m
 
   pub begins-step : (c : Call) → Begins (step t c .1) (changed (change c (step t c .0)) base)
   begins-step c =
@@ -198,9 +208,9 @@ module _ (t : Table) (base : Reading) (b : Begins t base) where
             step-follows t (b .sound) k c .0 ∙ ap (livesAfter d (asRead k)) (b .finds k) ∙ sym (value-changed d base (asRead k) (b .live-once));
         aways = λ k. step-follows t (b .sound) k c .1 ∙ ap (detachedAfter d (asRead k)) (b .aways k) ∙ sym (detached-changed d base (asRead k));
         live-once = once-changed d base (begins-new d f) (b .live-once);
-        live-read = live-reads d f;
+        live-read = live-named d f;
         detached-once = once-detached d base (begins-new d f) (b .detached-once);
-        detached-read = detached-reads d f;
+        detached-read = detached-named d f;
       }
 
 pub begins-after : (t : Table) (base : Reading) → Begins t base → (cs : List Call) → Begins (after t cs) (reading base (history t cs))

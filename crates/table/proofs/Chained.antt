@@ -1,19 +1,20 @@
 -- Theorem B2: the same of the arrays themselves. Over any chain of outcomes that each meet their call's equation, as the contracts of the code do,
 -- the last table reads as the chain says; every theorem over a base then holds of it. Assumes nothing.
-use mathlib.Core.Path.{_≡_, refl, sym, subst}
-use mathlib.Core.Bool.{true}
+use mathlib.Core.Path.{_≡_, sym, subst}
 use mathlib.Core.List.{List, []}
 use Prim.Native.Nat.{ℕ}
 use lib.ListN.{length}
 use Rattle.keys.specs.Keys.{idx, version, asRead}
-use Rattle.table.specs.Table.{Table, lengthsFit, isDetached}
-use Rattle.table.specs.Calls.{freshTable, lookup}
-use Rattle.table.specs.Steps.{History, after, history}
+use Rattle.table.specs.declared.Header.{Header}
+use Rattle.table.specs.Table.{Table, isDetached}
+use Rattle.table.specs.Calls.{said-count, begins, fresh, freshTable, len, lookup}
+use Rattle.table.specs.Steps.{History, after, history, Run, callsOf}
 use Rattle.table.specs.Reading.{Reading, blank, reading, valueIn, isIn}
-use Rattle.table.proofs.Runs.{Run, callsOf, run-after}
-use Rattle.table.proofs.Begins.{Begins, fresh-begins, begins-after}
-use Rattle.table.proofs.Promises.{valueOr, lookup-reads}
-use Rattle.table.proofs.Listed.{count-lives}
+use Rattle.table.specs.Begins.{Begins, valueOr}
+use Rattle.table.proofs.Runs.{run-after}
+use Rattle.table.proofs.Begins.{fresh-begins, begins-after}
+use Rattle.table.proofs.Promises.{lookup-reads}
+use Rattle.table.proofs.Listed.{count-lives, len-lives}
 
 module _ (t : Table) (base : Reading) (b : Begins t base) (h : History) (u : Table) (r : Run t h u) where
   pub run-begins : Begins u (reading base h)
@@ -35,6 +36,10 @@ module _ (t : Table) (base : Reading) (b : Begins t base) (h : History) (u : Tab
   pub run-count : u .head .n ≡ length (reading base h .live)
   run-count = count-lives u (reading base h) run-begins
 
+  pub run-len : len u ≡ said-count (length (reading base h .live))
+  run-len = len-lives u (reading base h) run-begins
+
 -- a chain that starts at a fresh table starts from nothing
-pub run-fresh : (vs ls ks xs : List ℕ) → lengthsFit vs ls ks xs ≡ true → (h : History) (u : Table) → Run (freshTable vs ls ks xs) h u → Begins u (reading blank h)
-run-fresh vs ls ks xs f h u r = run-begins (freshTable vs ls ks xs) blank (fresh-begins vs ls ks xs f) h u r
+pub run-fresh : (vs ls ks xs : List ℕ) (g : Header) → fresh vs ls ks xs .0 ≡ begins g → (h : History) (u : Table) → Run (freshTable vs ls ks xs g) h u
+    → Begins u (reading blank h)
+run-fresh vs ls ks xs g e h u r = run-begins (freshTable vs ls ks xs g) blank (fresh-begins vs ls ks xs g e) h u r

@@ -11,7 +11,8 @@ use lib.ListN.{length}
 use lib.Dec.{leb, ltb, eqb}
 use borrow.Author.Tests.{eqb-true, eq-eqb, ne-eqb}
 use Rattle.lists.proofs.Tests.{and-true, tests, parts}
-use Rattle.lists.proofs.Once.{Once, once-cons, once-nil, once-head, once-tail}
+use Rattle.lists.specs.Once.{Once}
+use Rattle.lists.proofs.Once.{once-cons, once-nil, once-head, once-tail}
 use Rattle.table.specs.Table.{Table, ver, link}
 use Rattle.table.specs.Sound.{Vacant, met, stands, times, leads, steps}
 

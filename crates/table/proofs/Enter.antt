@@ -13,8 +13,8 @@ use Rattle.keys.proofs.Keys.{idx-pack, vsn-pack}
 use Rattle.table.specs.declared.Header.{Header}
 use Rattle.table.specs.Table.{Table, ver, link, key, val, cap, takenHead, grownHead, rejoinedHead, entered}
 use Rattle.table.specs.Sound.{Vacant, Home}
+use Rattle.table.specs.Frames.{SameLengths}
 use Rattle.table.proofs.Shape.{Shape}
-use Rattle.table.proofs.Frames.{SameLengths}
 use Rattle.table.proofs.Facts.{shape-like}
 use Rattle.table.proofs.Chains.{Chain, chain-frame, chain-head, chain-link}
 use Rattle.table.proofs.Orderly.{Orderly, Occupied, home-by, home-occupied, room}

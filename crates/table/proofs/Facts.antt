@@ -6,9 +6,9 @@ use native.Mathlib.Omega.{arith}
 use Rattle.lists.proofs.Tests.{and-true, tests, parts, false-if}
 use Rattle.keys.specs.Keys.{far, up}
 use Rattle.table.specs.Table.{Table, ver, link, cap, isLive, isDetached}
+use Rattle.table.specs.Frames.{SameLengths}
 use Rattle.table.proofs.Shape.{Shape}
 use Rattle.table.proofs.Judged.{Live, live}
-use Rattle.table.proofs.Frames.{SameLengths}
 
 -- ---- shape
 

@@ -3,7 +3,7 @@
 use mathlib.Core.Path.{_≡_, refl, sym, ap, _∙_}
 use mathlib.Core.Logic.{_≢_, by-cases}
 use mathlib.Core.Bool.{Bool, true, false, cond}
-use mathlib.Core.Option.{Option, none, some}
+use mathlib.Core.Option.{none, some}
 use Prim.Native.Nat.{ℕ, _%_, _<_}
 use native.Mathlib.Omega.{arith}
 use native.Mathlib.Decide.{ℕ-discrete}
@@ -14,8 +14,9 @@ use borrow.Author.Tests.{eq-eqb, ne-eqb}
 use Rattle.lists.proofs.Tests.{split, same-test, true-false}
 use Rattle.keys.specs.Keys.{W, far, idx, vsn, pack, version, asRead, up}
 use Rattle.keys.proofs.Keys.{version-odd, version-word, read-is, is-read, idx-read, version-read}
-use Rattle.table.specs.Table.{Table, ver, link, key, val, isLive, isDetached, withValue}
+use Rattle.table.specs.Table.{Table, ver, link, key, val, isLive, withValue}
 use Rattle.table.specs.Sound.{Sound}
+use Rattle.table.specs.Begins.{find, away}
 use Rattle.table.proofs.Changes.{sieve, onSome}
 use Rattle.table.proofs.Judged.{Live, live}
 use Rattle.table.proofs.Facts.{facts-live, not-live, Detached, detached-facts, facts-detached, not-detached}
@@ -24,14 +25,6 @@ use Rattle.table.proofs.Leave.{Leaves, last-home, vacant-off, without-l
 use Rattle.table.proofs.Enter.{Enters, Widens}
 use Rattle.table.proofs.Cases.{live-place, stored-occupied, stored-live}
 use Rattle.table.proofs.Sieve.{dropped, dropped-leaves}
-
--- the value of a key that is live
-unfoldable pub find : Table → ℕ → Option ℕ
-find t k = cond (isLive t (idx k) (version k)) (some (val t (link t (idx k)))) none
-
--- whether the key is detached
-abbrev pub away : Table → ℕ → Bool
-away t k = isDetached t (idx k) (version k)
 
 abbrev LiveKey : Table → ℕ → Type 0
 LiveKey t k = Live t (idx k) (version k)

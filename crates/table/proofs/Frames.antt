@@ -15,26 +15,9 @@ use Rattle.keys.specs.Keys.{idx}
 use Rattle.table.specs.declared.Header.{Header}
 use Rattle.table.specs.Table.{Table, ver, link, key, val, last, lastIdx, lengthsFit, hasShape, grownHead, withValue, entered, freed, filled, left}
 use Rattle.table.specs.Calls.{Out, fresh, lookup, put, inserted, insert, remove, detach, reattach, drain}
-use Rattle.table.proofs.Refused.{first, first-holds, ruled-either, placeTests, leaveTests, slotTests, insertTests, reattachTests, drainTests, issues, lookup-ruled, put-ruled, insert-ruled, remove-ruled, detach-ruled, reattach-ruled, drain-ruled}
-
--- ---- equal before and after
-
-abbrev pub SameSlot : Table → Table → ℕ → Type 0
-SameSlot t u i = (ver u i ≡ ver t i) × (link u i ≡ link t i)
-
--- the slot of the last element, where that is moved, gets another link
-abbrev pub SameUnlessMoved : Table → Table → ℕ → Type 0
-SameUnlessMoved t u i = (ver u i ≡ ver t i) × (i ≢ lastIdx t → link u i ≡ link t i)
-
-abbrev pub SamePlace : Table → Table → ℕ → Type 0
-SamePlace t u p = (key u p ≡ key t p) × (val u p ≡ val t p)
-
-abbrev pub SameLengths : Table → Table → Type 0
-SameLengths t u =
-    (length (u .versions) ≡ length (t .versions))
-    × (length (u .links) ≡ length (t .links))
-    × (length (u .keys) ≡ length (t .keys))
-    × (length (u .values) ≡ length (t .values))
+use Rattle.table.specs.Refused.{first, placeTests, leaveTests, slotTests, insertTests, reattachTests, drainTests, issues}
+use Rattle.table.specs.Frames.{SameSlot, SameUnlessMoved, SamePlace, SameLengths}
+use Rattle.table.proofs.Refused.{first-holds, ruled-either, lookup-ruled, put-ruled, insert-ruled, remove-ruled, detach-ruled, reattach-ruled, drain-ruled}
 
 -- ---- the ways to write
 
@@ -179,11 +162,11 @@ module _ (P : Table → Type 0) (t : Table) (same : P t) where
 module _ (vs ls ks xs : List ℕ) where
   pub frame-fresh-slot : (i : ℕ) → i ≢ 0 → (getD (fresh vs ls ks xs .1 .0) i 0 ≡ getD vs i 0) × (getD (fresh vs ls ks xs .1 .1) i 0 ≡ getD ls i 0)
   unfolding fresh
-  frame-fresh-slot i ne = split (lengthsFit vs ls ks xs) (λ e. rw e (getD-set-other vs 0 i 0 0 ne, getD-set-other ls 0 i 0 0 ne)) (λ e. rw e (refl, refl))
+  frame-fresh-slot i ne = split (lengthsFit vs ls ks xs) (λ e. rw e (getD-set-other vs 0 i _ 0 ne, getD-set-other ls 0 i _ 0 ne)) (λ e. rw e (refl, refl))
 
   pub frame-fresh-lengths : (length (fresh vs ls ks xs .1 .0) ≡ length vs) × (length (fresh vs ls ks xs .1 .1) ≡ length ls)
   unfolding fresh
-  frame-fresh-lengths = split (lengthsFit vs ls ks xs) (λ e. rw e (length-set vs 0 0, length-set ls 0 0)) (λ e. rw e (refl, refl))
+  frame-fresh-lengths = split (lengthsFit vs ls ks xs) (λ e. rw e (length-set vs 0 _, length-set ls 0 _)) (λ e. rw e (refl, refl))
 
 module _ (t : Table) where
   -- ---- lookup: nothing

@@ -7,12 +7,13 @@ use mathlib.Core.List.{List, [], _∷_, List·Memᴰ, List·Memᴰ·not-nil}
 use Prim.Native.Nat.{ℕ, _+_, _%_, _≤_, _<_}
 use native.Mathlib.Omega.{arith}
 use native.Mathlib.Decide.{ℕ-discrete}
-use Rattle.keys.specs.Keys.{W, far, idx, pack, version, down}
+use Rattle.keys.specs.Keys.{W, far, pack, down}
 use Rattle.keys.proofs.Keys.{version-odd, version-pack, idx-pack}
 use Rattle.keys.proofs.Versions.{up-down}
 use Rattle.table.specs.Table.{Table, ver, link, cap, isLive, isDetached}
 use Rattle.table.specs.Calls.{said-key, refused, Out, insert}
 use Rattle.table.specs.Sound.{Vacant, Sound}
+use Rattle.table.specs.Refused.{Used}
 use Rattle.table.proofs.Shape.{Shape, shape}
 use Rattle.table.proofs.Judged.{live}
 use Rattle.table.proofs.Facts.{facts-live, detached-facts, facts-detached}
@@ -20,10 +21,6 @@ use Rattle.table.proofs.Chains.{Chain}
 use Rattle.table.proofs.Orderly.{Orderly, orderly}
 use Rattle.table.proofs.Enter.{head-free}
 use Rattle.table.proofs.Cases.{insert-ways, insert-taken, insert-grown, insert-full}
-
--- a key of index i is live or detached
-abbrev pub Used : Table → ℕ → Type 0
-Used t i = (k : ℕ) × (idx k ≡ i) × ((isLive t i (version k) ≡ true) ⊎ (isDetached t i (version k) ≡ true))
 
 module _ (t : Table) (a : Sound t) where
   o : Orderly t

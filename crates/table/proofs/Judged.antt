@@ -1,15 +1,15 @@
 -- What an accepted judgement tells of the table: the bounds that the stores need. Assumes nothing.
-use mathlib.Core.Path.{_≡_, refl, sym, ap, _∙_}
-use mathlib.Core.Bool.{Bool, true, false, cond, _&&_}
-use Prim.Native.Nat.{ℕ, _+_, _-_, _%_, _≤_, _<_}
+use mathlib.Core.Path.{_≡_, refl, ap}
+use mathlib.Core.Bool.{Bool, true, false, cond}
+use Prim.Native.Nat.{ℕ, _-_, _≤_, _<_}
 use native.Mathlib.Omega.{arith}
-use lib.Dec.{leb, ltb, eqb}
+use lib.Dec.{ltb}
 use lib.ListN.{length}
 use borrow.Author.Tests.{ltb-true, ltb-false}
 use Rattle.keys.specs.Keys.{idx, vsn, pack, version, odd}
 use Rattle.lists.proofs.Tests.{split, parts}
-use Rattle.table.specs.Table.{Table, ver, link, key, cap, hasShape, isLive, isHeld, isDetached, last, lastIdx, lastInRange, lastIsHeld, hasPlace, headIsFree}
-use Rattle.table.specs.Calls.{Judged, found, fails, placeIn, place, nextIn, next, keySaid, said-key, lastOf, leaving, berthIn, berth}
+use Rattle.table.specs.Table.{Table, ver, link, key, cap, hasShape, isLive, isHeld, isDetached, last, lastIdx, lastInRange, lastIsHeld, headIsFree}
+use Rattle.table.specs.Calls.{Judged, found, fails, placeIn, place, nextIn, next, lastOf, leaving, berthIn, berth}
 use Rattle.table.proofs.Shape.{Shape, shape}
 
 -- ---- an acceptance has passed the test before it, and comes from what follows the test

@@ -1,13 +1,11 @@
 -- What a judgement answers, from the facts that the tests on the way tell. Assumes nothing.
-use mathlib.Core.Path.{_≡_, refl, sym, ap, _∙_}
+use mathlib.Core.Path.{_≡_}
 use mathlib.Core.Logic.{_≢_}
-use mathlib.Core.Bool.{Bool, true, false, cond, _&&_}
-use Prim.Native.Nat.{ℕ, _+_, _-_, _%_, _≤_, _<_}
-use native.Mathlib.Omega.{arith}
-use lib.Dec.{leb, ltb, eqb}
-use Rattle.keys.specs.Keys.{far, idx, vsn, pack, odd, up}
+use mathlib.Core.Bool.{true, cond}
+use Prim.Native.Nat.{ℕ, _-_, _%_, _≤_, _<_}
+use Rattle.keys.specs.Keys.{far, vsn, pack, odd, up}
 use Rattle.lists.proofs.Tests.{tests}
-use Rattle.table.specs.Table.{Table, ver, link, key, cap, isLive, isHeld, isDetached, last, lastIdx, lastInRange, lastIsHeld, hasPlace, headIsFree}
+use Rattle.table.specs.Table.{Table, ver, link, key, cap, isLive, isHeld, isDetached, last, lastIdx, lastInRange, lastIsHeld, headIsFree}
 use Rattle.table.specs.Calls.{Judged, found, fails, placeIn, nextIn, berthIn}
 
 -- ---- the place of a live key

@@ -8,12 +8,14 @@ use lib.ListN.{getD, set, length-set}
 use lib.Seq.{getD-set-same}
 use Rattle.keys.proofs.Keys.{version-odd, version-word}
 use Rattle.rules.specs.declared.Rule.{Rule}
+use Rattle.table.specs.declared.Header.{Header}
 use Rattle.table.specs.Table.{Table, cap, last, lengthsFit, withValue}
-use Rattle.table.specs.Calls.{Out, said-done, freshTable, put, insert, remove, detach, reattach, drain}
+use Rattle.table.specs.Calls.{Out, said-done, begins, freshHead, fresh, freshTable, put, insert, remove, detach, reattach, drain}
 use Rattle.table.specs.Sound.{Sound}
 use Rattle.table.specs.Sweeps.{retain, clear}
 use Rattle.table.specs.Steps.{Call, c-put, c-insert, c-remove, c-detach, c-reattach, c-drain, c-retain, c-clear, step, after}
 use Rattle.table.proofs.Shape.{lengths}
+use Rattle.table.proofs.Refused.{fresh-begun}
 use Rattle.table.proofs.Facts.{shape-like}
 use Rattle.table.proofs.Chains.{chain-frame}
 use Rattle.table.proofs.Orderly.{Orderly, home-by, orderly, sound}
@@ -25,12 +27,14 @@ use Rattle.table.proofs.Outcomes.{Outcome, outcome, refuses, looks, put
 
 -- ---- fresh
 
-pub sound-fresh : (vs ls ks xs : List ℕ) → lengthsFit vs ls ks xs ≡ true → Sound (freshTable vs ls ks xs)
-unfolding freshTable
-sound-fresh vs ls ks xs fit =
+abbrev blankTable : List ℕ → List ℕ → List ℕ → List ℕ → Table
+blankTable vs ls ks xs = record { versions = set vs 0 0; links = set ls 0 0; keys = ks; values = xs; head = freshHead }
+
+sound-blank : (vs ls ks xs : List ℕ) → lengthsFit vs ls ks xs ≡ true → Sound (blankTable vs ls ks xs)
+sound-blank vs ls ks xs fit =
     let h = lengths vs ls ks xs fit in
     let z : getD (set vs 0 0) 0 0 ≡ 0 = getD-set-same vs 0 0 0 (omega (arith, h)) in
-    sound (freshTable vs ls ks xs) (record {
+    sound (blankTable vs ls ks xs) (record {
       shape =
           record {
             small = h .small;
@@ -52,6 +56,10 @@ sound-fresh vs ls ks xs fit =
       chain = refl;
       evens = λ i v. absurd (omega (arith, v));
     })
+
+pub sound-fresh : (vs ls ks xs : List ℕ) (h : Header) → fresh vs ls ks xs .0 ≡ begins h → Sound (freshTable vs ls ks xs h)
+unfolding fresh
+sound-fresh vs ls ks xs h e = let f = fresh-begun vs ls ks xs h e in rw (f .0, f .1) (sound-blank vs ls ks xs (f .0))
 
 -- ---- put
 

@@ -13,8 +13,9 @@ use Rattle.keys.specs.Keys.{W, far, idx, up}
 use Rattle.table.specs.declared.Header.{Header}
 use Rattle.table.specs.Table.{Table, ver, link, key, val, last, lastIdx, freedHead, partedHead, freed, filled, left}
 use Rattle.table.specs.Sound.{Vacant, Home}
+use Rattle.table.specs.Frames.{SameLengths}
 use Rattle.table.proofs.Shape.{Shape}
-use Rattle.table.proofs.Frames.{SameLengths, left-either, left-slot, left-place, left-lengths}
+use Rattle.table.proofs.Frames.{left-either, left-slot, left-place, left-lengths}
 use Rattle.table.proofs.Facts.{shape-like}
 use Rattle.table.proofs.Chains.{Chain, chain-vacant, chain-frame}
 use Rattle.table.proofs.Orderly.{Orderly, Occupied, home-by}

@@ -1,37 +1,61 @@
 -- Theorem E: the first n keys are the keys that live by the reading, each once, with their values beside them; so n is their number.
 -- Shown of any table that reads as a base, and so after any list of calls. Assumes nothing.
 use mathlib.Core.Path.{_≡_, refl, sym, ap, _∙_}
-use mathlib.Core.List.{List, List·Memᴰ}
-use mathlib.Core.Option.{Option, none, some}
-use Prim.Native.Nat.{ℕ, _+_, _≤_, _<_}
+use mathlib.Core.Logic.{_↔_}
+use mathlib.Core.List.{List, List·Memᴰ, Memᴰ·cast}
+use mathlib.Core.Option.{some}
+use Prim.Native.Nat.{ℕ, _<_}
 use native.Mathlib.Omega.{arith}
+use lib.Dec.{eqb}
 use lib.ListN.{length, getD}
-use Rattle.lists.specs.Count.{count}
-use Rattle.lists.proofs.Count.{always, always-true, count-always, count-inj}
-use Rattle.lists.proofs.Once.{getD-mem, once-inj, place, place-at}
-use Rattle.keys.specs.Keys.{idx, version, asRead, vsn}
+use lib.Seq.{length-take-le, getD-take}
+use Rattle.lists.specs.Once.{Once}
+use Rattle.lists.proofs.Once.{getD-mem, inj-once, place, place-at, length-lists-same}
+use Rattle.keys.specs.Keys.{idx, version}
 use Rattle.keys.proofs.Keys.{is-read}
 use Rattle.table.specs.Table.{Table, ver, link, key, val}
-use Rattle.table.specs.Sound.{Sound, Home}
+use Rattle.table.specs.Calls.{said-count, said-truth, len, isEmpty, listedKeys, listedValues}
+use Rattle.table.specs.Sound.{Sound}
 use Rattle.table.specs.Steps.{Call, after, history}
-use Rattle.table.specs.Reading.{Reading, reading, valueIn}
-use Rattle.table.proofs.Judged.{Live}
-use Rattle.table.proofs.Readings.{keysOf, length-keys, value-mem}
+use Rattle.table.specs.Reading.{Reading, reading, valueIn, keysOf}
+use Rattle.table.specs.Begins.{Begins}
+use Rattle.table.proofs.Shape.{Shape, shape}
+use Rattle.table.proofs.Readings.{length-keys, value-mem}
 use Rattle.table.proofs.Cases.{stored-version, stored-read, live-place}
 use Rattle.table.proofs.Follows.{find-stored}
-use Rattle.table.proofs.Begins.{Begins, base-value, base-live, begins-after}
+use Rattle.table.proofs.Begins.{base-value, base-live, begins-after}
+
+-- ---- the lists that are answered, place by place
+
+module _ (t : Table) (a : Sound t) where
+  s : Shape t
+  s = shape t (a .shape)
+
+  keys-count : length (listedKeys t) ≡ t .head .n
+  unfolding listedKeys
+  keys-count = let z = s in rw (a .shape) (length-take-le _ _ (omega (arith, z)))
+
+  values-count : length (listedValues t) ≡ t .head .n
+  unfolding listedValues
+  values-count = let z = s in rw (a .shape) (length-take-le _ _ (omega (arith, z)))
+
+  key-at : (p : ℕ) → p < t .head .n → getD (listedKeys t) p 0 ≡ key t p
+  unfolding listedKeys
+  key-at p h = rw (a .shape) (getD-take _ _ p 0 h)
+
+  value-at : (p : ℕ) → p < t .head .n → getD (listedValues t) p 0 ≡ val t p
+  unfolding listedValues
+  value-at p h = rw (a .shape) (getD-take _ _ p 0 h)
+
+-- ---- the live keys
 
 module _ (t : Table) (base : Reading) (b : Begins t base) where
-  known : List ℕ
-  known = keysOf (base .live)
-
   -- each of the first n keys lives, with the value at its place
   pub listed-live : (p : ℕ) → p < t .head .n → valueIn (base .live) (key t p) ≡ some (val t p)
   listed-live p h = base-value t base b (key t p) (stored-read t (b .sound) p h) ∙ find-stored t (b .sound) p h
 
   -- a live key stands at the place that its slot links to
-  stands-there : (k : ℕ) → List·Memᴰ k known → (link t (idx k) < t .head .n) × (key t (link t (idx k)) ≡ k)
-  unfolding known
+  stands-there : (k : ℕ) → List·Memᴰ k (keysOf (base .live)) → (link t (idx k) < t .head .n) × (key t (link t (idx k)) ≡ k)
   stands-there k m =
       let l = base-live t base b k m in
       let p = live-place t (b .sound) k l in
@@ -41,47 +65,88 @@ module _ (t : Table) (base : Reading) (b : Begins t base) where
 
   -- each live key is among them
   pub live-listed : (k : ℕ) → List·Memᴰ k (keysOf (base .live)) → (p : ℕ) × (p < t .head .n) × (key t p ≡ k)
-  unfolding known
   live-listed k m = let s = stands-there k m in (link t (idx k), s .0, s .1)
 
   -- and none stands there twice
   pub listed-once : (p q : ℕ) → p < t .head .n → q < t .head .n → key t p ≡ key t q → p ≡ q
   listed-once p q hp hq e = sym (b .sound .homes p hp .back) ∙ ap (λ (k : ℕ). link t (idx k)) e ∙ b .sound .homes q hq .back
 
-  listed-known : (p : ℕ) → p < t .head .n → List·Memᴰ (key t p) known
-  unfolding known
-  listed-known p h = value-mem (base .live) (key t p) (val t p) (listed-live p h)
+  -- ---- the same of the lists
 
-  at-least : count always (t .head .n) ≤ count always (length known)
-  at-least =
-      count-inj (t .head .n) always (length known) always (λ (p : ℕ). place known (key t p))
-      (λ p h _. (place-at known (key t p) (listed-known p h) .0, always-true _))
-      (λ p q hp hq _ _ e. listed-once p q hp hq
-      (sym (place-at known (key t p) (listed-known p hp) .1) ∙ ap (λ (m : ℕ). getD known m 0) e ∙ place-at known (key t q) (listed-known q hq) .1))
+  pub keys-live : (k : ℕ) → List·Memᴰ k (listedKeys t) ↔ List·Memᴰ k (keysOf (base .live))
+  keys-live k = (
+    (λ m.
+        let r = place-at (listedKeys t) k m in
+        let h : place (listedKeys t) k < t .head .n = omega (arith, r .0, keys-count t (b .sound)) in
+        Memᴰ·cast (sym (r .1) ∙ key-at t (b .sound) _ h) (value-mem (base .live) _ _ (listed-live _ h))),
+    λ m.
+        let r = live-listed k m in
+        Memᴰ·cast (sym (r .2) ∙ sym (key-at t (b .sound) (r .0) (r .1))) (getD-mem (listedKeys t) (r .0) (omega (arith, r .1, keys-count t (b .sound)))),
+  )
 
-  at-most : count always (length known) ≤ count always (t .head .n)
-  unfolding known
-  at-most =
-      count-inj (length known) always (t .head .n) always (λ (j : ℕ). link t (idx (getD known j 0)))
-      (λ j h _. (stands-there _ (getD-mem known j h) .0, always-true _))
-      (λ i j hi hj _ _ e. once-inj known (b .live-once) i j hi hj
-      (sym (stands-there _ (getD-mem known i hi) .1) ∙ ap (key t) e ∙ stands-there _ (getD-mem known j hj) .1))
+  pub keys-once : Once (listedKeys t)
+  keys-once =
+      inj-once (listedKeys t) (λ p q hp hq e.
+      let n = keys-count t (b .sound) in
+      let lp : p < t .head .n = omega (arith, n) in
+      let lq : q < t .head .n = omega (arith, n) in
+      listed-once p q lp lq (sym (key-at t (b .sound) p lp) ∙ e ∙ key-at t (b .sound) q lq))
 
   -- n is the number of live keys
   pub count-lives : t .head .n ≡ length (base .live)
-  unfolding known
   count-lives =
-      let l = at-least in
-      let m = at-most in
-      omega (arith, l, m, count-always (t .head .n), count-always (length known), length-keys (base .live))
+      sym (keys-count t (b .sound))
+      ∙ length-lists-same (listedKeys t) (keysOf (base .live)) keys-once (b .live-once) (λ k. keys-live k .0) (λ k. keys-live k .1)
+      ∙ length-keys (base .live)
 
--- the same after any list of calls
+  pub len-lives : len t ≡ said-count (length (base .live))
+  unfolding len
+  len-lives = rw (b .sound .shape) (ap said-count count-lives)
+
+  pub empty-lives : isEmpty t ≡ said-truth (eqb (length (base .live)) 0)
+  unfolding isEmpty
+  empty-lives = rw (b .sound .shape) (ap (λ (m : ℕ). said-truth (eqb m 0)) count-lives)
+
+  pub values-length : length (listedValues t) ≡ length (base .live)
+  values-length = values-count t (b .sound) ∙ count-lives
+
+  pub values-live : (p : ℕ) → p < length (base .live) → valueIn (base .live) (getD (listedKeys t) p 0) ≡ some (getD (listedValues t) p 0)
+  values-live p h =
+      let l : p < t .head .n = omega (arith, count-lives) in
+      ap (valueIn (base .live)) (key-at t (b .sound) p l) ∙ listed-live p l ∙ sym (ap some (value-at t (b .sound) p l))
+
+-- ---- the same after any list of calls
+
 module _ (t : Table) (base : Reading) (b : Begins t base) (cs : List Call) where
+  now : Begins (after t cs) (reading base (history t cs))
+  now = begins-after t base b cs
+
   pub count-reads : after t cs .head .n ≡ length (reading base (history t cs) .live)
-  count-reads = count-lives (after t cs) _ (begins-after t base b cs)
+  count-reads = count-lives (after t cs) _ now
 
   pub listed-reads : (p : ℕ) → p < after t cs .head .n → valueIn (reading base (history t cs) .live) (key (after t cs) p) ≡ some (val (after t cs) p)
-  listed-reads = listed-live (after t cs) _ (begins-after t base b cs)
+  listed-reads = listed-live (after t cs) _ now
 
   pub reads-listed : (k : ℕ) → List·Memᴰ k (keysOf (reading base (history t cs) .live)) → (p : ℕ) × (p < after t cs .head .n) × (key (after t cs) p ≡ k)
-  reads-listed = live-listed (after t cs) _ (begins-after t base b cs)
+  reads-listed = live-listed (after t cs) _ now
+
+  pub len-reads : len (after t cs) ≡ said-count (length (reading base (history t cs) .live))
+  len-reads = len-lives (after t cs) _ now
+
+  pub empty-reads : isEmpty (after t cs) ≡ said-truth (eqb (length (reading base (history t cs) .live)) 0)
+  empty-reads = empty-lives (after t cs) _ now
+
+  -- the keys that are listed are the live ones, each once
+  pub keys-read : (k : ℕ) → List·Memᴰ k (listedKeys (after t cs)) ↔ List·Memᴰ k (keysOf (reading base (history t cs) .live))
+  keys-read = keys-live (after t cs) _ now
+
+  pub keys-read-once : Once (listedKeys (after t cs))
+  keys-read-once = keys-once (after t cs) _ now
+
+  -- and each has its value beside it
+  pub values-read : (p : ℕ) → p < length (reading base (history t cs) .live)
+      → valueIn (reading base (history t cs) .live) (getD (listedKeys (after t cs)) p 0) ≡ some (getD (listedValues (after t cs)) p 0)
+  values-read = values-live (after t cs) _ now
+
+  pub values-read-length : length (listedValues (after t cs)) ≡ length (reading base (history t cs) .live)
+  values-read-length = values-length (after t cs) _ now

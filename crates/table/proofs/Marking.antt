@@ -20,12 +20,11 @@ use Rattle.keys.specs.Keys.{idx, version, asRead}
 use Rattle.keys.proofs.Keys.{read-is, is-read}
 use Rattle.table.specs.Table.{Table, link, hasShape, isLive, isHeld}
 use Rattle.table.specs.Calls.{Judged, found, fails, placeIn, place}
+use Rattle.table.specs.Refused.{first, keyTests, linksOf}
 use Rattle.table.proofs.Shape.{Shape, has-shape}
 use Rattle.table.proofs.Judged.{Live, standing}
 use Rattle.table.proofs.Judging.{place-held}
 use Rattle.table.proofs.Facts.{facts-live}
-use Rattle.table.proofs.Refused.{first}
-use Rattle.table.proofs.Places.{keyTests, linksOf}
 use Rattle.marks.specs.Marks.{toggled, marked}
 use Rattle.marks.proofs.Turns.{length-toggled, marked-snoc}
 use Rattle.marks.proofs.Marks.{Marks, marks-none, seen-marked, new-found, found-new, marks-more}

@@ -15,31 +15,17 @@ use Rattle.lists.specs.Among.{among}
 use Rattle.lists.proofs.Tests.{split, true-false, parts}
 use Rattle.lists.proofs.Put.{put-nil}
 use Rattle.lists.proofs.Among.{among-same, among-rest}
-use Rattle.lists.proofs.Once.{Once, once-nil, once-cons}
+use Rattle.lists.specs.Once.{Once}
+use Rattle.lists.proofs.Once.{once-nil, once-cons}
 use Rattle.keys.specs.Keys.{idx, pack, version, asRead}
 use Rattle.keys.proofs.Keys.{is-read}
-use Rattle.table.specs.Table.{Table, link, key, val, hasShape, isLive, dead, isHeld}
+use Rattle.table.specs.Table.{Table, link, key, val, hasShape, isLive, isHeld}
 use Rattle.table.specs.Calls.{said-value, said-done, refused, found, placeIn, place, lookup}
 use Rattle.table.specs.Sweeps.{Places, places, bars, placed, placesOf, given, disjoint}
-use Rattle.table.proofs.Refused.{Tests, first, ruled, ruled-keeps}
+use Rattle.table.specs.Refused.{Tests, first, ruled, keyTests, disjointTests, linksOf}
+use Rattle.table.proofs.Refused.{ruled-keeps}
 
--- ---- the tests, in list order: each key by 2 then 5; 6 comes last
-
-abbrev pub keyTests : Table → List ℕ → List ℕ → Tests
-keyTests t earlier [] = []
-keyTests t earlier (k ∷ ks) =
-    (not (among (asRead k) earlier), 2)
-    ∷ (isLive t (idx k) (version k), dead t (idx k) (version k))
-    ∷ (isHeld t (idx k) (version k), 5)
-    ∷ keyTests t (asRead k ∷ earlier) ks
-
-abbrev pub disjointTests : Table → List ℕ → List ℕ → Tests
-disjointTests t ks out = (hasShape t, 1) ∷ (keyTests t [] ks ++ ((leb (length ks) (length out), 6) ∷ []))
-
--- the places of a list of keys
-abbrev pub linksOf : Table → List ℕ → List ℕ
-linksOf t [] = []
-linksOf t (k ∷ ks) = link t (idx k) ∷ linksOf t ks
+-- ---- the places of the keys, in list order
 
 abbrev seated : Option ℕ → List ℕ → Places
 seated none ps = places ps

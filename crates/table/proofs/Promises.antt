@@ -2,7 +2,7 @@
 -- for every number given as a key; and the key that an insert answers is new. Assumes nothing.
 use mathlib.Core.Path.{_≡_, refl, sym, ap, ap₂, _∙_, subst}
 use mathlib.Core.Logic.{_↔_, by-cases}
-use mathlib.Core.Bool.{Bool, true, false, cond}
+use mathlib.Core.Bool.{Bool, false, cond}
 use mathlib.Core.List.{List, [], _∷_, _++_, List·Memᴰ, List·Memᴰ·head}
 use mathlib.Core.Option.{Option, none, some}
 use Prim.Native.Nat.{ℕ, _+_, _<_}
@@ -17,24 +17,16 @@ use Rattle.table.specs.Calls.{Said, said-key, said-value, said-pair, sai
 use Rattle.table.specs.Sweeps.{retain, clear}
 use Rattle.table.specs.Sound.{Sound}
 use Rattle.table.specs.Steps.{Call, c-insert, step, after, history}
-use Rattle.table.specs.Reading.{Change, change, Reading, changed, reading, valueIn, isIn, removedAt, removals}
+use Rattle.table.specs.Reading.{Change, change, Reading, changed, reading, valueIn, isIn, removedAt, removals, keysOf}
+use Rattle.table.specs.Begins.{find, away, Begins, valueOr, isSome}
 use Rattle.table.proofs.Refused.{refused-keeps}
-use Rattle.table.proofs.Readings.{keysOf, mem-value}
+use Rattle.table.proofs.Readings.{mem-value}
 use Rattle.table.proofs.Judged.{Live, live}
 use Rattle.table.proofs.Facts.{detached-facts}
 use Rattle.table.proofs.Cases.{live-place, stored-read, lookup-live, lookup-dead, put-live, put-dead, remove-live, remove-dead, detach-live, detach-dead, reattach-met, reattach-not, drain-some, drain-none, retain-is, clear-is}
-use Rattle.table.proofs.Follows.{find, away, find-live, find-dead, find-not, find-stored}
+use Rattle.table.proofs.Follows.{find-live, find-dead, find-not, find-stored}
 use Rattle.table.proofs.Answers.{change-refused}
-use Rattle.table.proofs.Begins.{Absent, Fits, step-fits, Begins, base-value, base-away, begins-after}
-
--- what a call on a key answers, where g is the key's value if it lives
-abbrev pub valueOr : Table → ℕ → Option ℕ → Said
-valueOr t k none = refused (dead t (idx k) (version k))
-valueOr t k (some v) = said-value v
-
-abbrev pub isSome : Option ℕ → Bool
-isSome none = false
-isSome (some v) = true
+use Rattle.table.proofs.Begins.{Absent, Fits, step-fits, insert-read, base-value, base-away, begins-after}
 
 -- ---- on a sound table, by what lookup finds
 
@@ -113,13 +105,17 @@ module _ (t : Table) (base : Reading) (b : Begins t base) (cs : List Call) where
 
   -- ---- Theorem C
 
+  -- the key is answered as it is read, and neither lives nor is detached
   pub insert-new : (x k : ℕ) → insert (after t cs) x .0 ≡ said-key k
-      → (valueIn (reading base (history t cs) .live) k ≡ none) × (isIn (reading base (history t cs) .detached) k ≡ false)
+      → (asRead k ≡ k) × (valueIn (reading base (history t cs) .live) k ≡ none) × (isIn (reading base (history t cs) .detached) k ≡ false)
   unfolding step change
   insert-new x k e =
-      let f : Absent (after t cs) k false = subst (λ (s : Said). Fits (after t cs) (change (c-insert x) s)) e (step-fits (after t cs) (now .sound) (c-insert x)) in (
-        base-value (after t cs) _ now k (f .read) ∙ f .lost,
-        base-away (after t cs) _ now k (f .read) ∙ f .whether-away,
+      let q = insert-read (after t cs) (now .sound) x k e in
+      let g : Absent (after t cs) (asRead k) false = subst (λ (s : Said). Fits (after t cs) (change (c-insert x) s)) e (step-fits (after t cs) (now .sound) (c-insert x)) in
+      let f : Absent (after t cs) k false = rw q at g in (
+        q,
+        base-value (after t cs) _ now k q ∙ f .lost,
+        base-away (after t cs) _ now k q ∙ f .whether-away,
       )
 
   -- ---- the drain step

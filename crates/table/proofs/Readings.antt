@@ -13,15 +13,11 @@ use lib.Dec.{eqb}
 use borrow.Author.Tests.{eqb-true, eq-eqb, ne-eqb}
 use Rattle.lists.specs.Among.{among}
 use Rattle.lists.proofs.Tests.{split, true-false}
-use Rattle.lists.proofs.Once.{Once, once-head, once-tail, once-cons, once-sublist}
+use Rattle.lists.specs.Once.{Once}
+use Rattle.lists.proofs.Once.{once-head, once-tail, once-cons, once-sublist}
 use Rattle.keys.specs.Keys.{idx}
-use Rattle.table.specs.Reading.{Change, nothing, issued, returned, revalued, dies, parts, sieved, Reading, without, except, valued, sifted, changed, valueIn, isIn, droppedAt}
+use Rattle.table.specs.Reading.{Change, nothing, issued, returned, revalued, dies, parts, sieved, Reading, without, except, valued, sifted, changed, valueIn, isIn, droppedAt, keysOf}
 use Rattle.table.proofs.Changes.{onSome, sieve, livesAfter, detachedAfter}
-
--- the keys of a list of keys with values
-abbrev pub keysOf : List (ℕ × ℕ) → List ℕ
-keysOf [] = []
-keysOf (e ∷ l) = e .0 ∷ keysOf l
 
 -- ---- one entry: at its own key, and at another
 

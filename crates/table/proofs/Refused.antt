@@ -1,40 +1,25 @@
 -- Theorem G, for any table: a call is refused with the number of the first of its tests that fails, and then leaves everything as it
 -- was; where all its tests hold it does what the rules say. Each call is one equation over its list of tests. Assumes nothing.
 use mathlib.Core.Path.{_≡_, refl, sym, ap, _∙_, subst}
-use mathlib.Core.Bool.{Bool, true, false, cond}
+use mathlib.Core.Bool.{Bool, true, false}
 use mathlib.Core.List.{List, [], _∷_, List·Memᴰ, List·Memᴰ·head, List·Memᴰ·tail}
 use mathlib.Core.Option.{Option, none, some}
 use Prim.Native.Nat.{ℕ}
 use native.Mathlib.Omega.{arith}
 use lib.Dec.{leb, ltb, eqb}
 use Rattle.lists.proofs.Tests.{split, either, true-false}
-use Rattle.keys.specs.Keys.{far, idx, pack, version, asRead, odd, down}
+use Rattle.keys.specs.Keys.{far, idx, version, asRead, down}
 use Rattle.rules.specs.declared.Rule.{Rule}
 use Rattle.rules.specs.Rules.{keepsOf}
-use Rattle.table.specs.Table.{Table, ver, link, key, val, cap, lengthsFit, hasShape, isLive, dead, isDetached, isHeld, last, lastIdx, lastInRange, lastIsHeld, hasPlace, headIsFree, freedHead, partedHead, rejoinedHead, withValue, entered, freed, left}
-use Rattle.table.specs.Calls.{Said, said-key, said-value, said-pair, said-done, said-count, said-truth, refused, Out, Judged, found, fails, on, cannot, fresh, placeIn, place, lookup, put, nextIn, next, inserted, insert, keySaid, nextKey, lastOf, leaving, remove, detach, berthIn, berth, reattach, drain}
+use Rattle.table.specs.declared.Header.{Header}
+use Rattle.table.specs.Table.{Table, ver, link, val, cap, lengthsFit, hasShape, isLive, isDetached, isHeld, lastInRange, lastIsHeld, hasPlace, headIsFree, freedHead, partedHead, rejoinedHead, withValue, entered, left}
+use Rattle.table.specs.Calls.{Said, said-key, said-value, said-pair, said-done, said-count, said-truth, refused, Out, Judged, found, fails, on, begins, cannot, freshHead, fresh, placeIn, place, lookup, put, nextIn, next, inserted, insert, keySaid, nextKey, lastOf, leaving, remove, detach, berthIn, berth, reattach, drain}
 use Rattle.table.specs.Sound.{isSound}
 use Rattle.table.specs.Sweeps.{asked, retaining, retain, clearing, clear}
 use Rattle.table.specs.Steps.{Call, c-lookup, c-put, c-insert, c-remove, c-detach, c-reattach, c-drain, c-retain, c-clear, step}
+use Rattle.table.specs.Refused.{Tests, first, numbers, ruled, judged, placeTests, leaveTests, insertTests, reattachTests, drainTests, sweepTests, issues, drains}
 
 -- ---- tests in order, each with the number of its refusal
-
-abbrev pub Tests : Type 0
-Tests = List (Bool × ℕ)
-
--- the number of the first test that fails
-abbrev pub first : Tests → Option ℕ
-first [] = none
-first (e ∷ l) = cond (e .0) (first l) (some (e .1))
-
--- refused with that number, and u is as it was; else the outcome o
-abbrev pub ruled : {A : Type 0} → A → Option ℕ → Said × A → Said × A
-ruled u none o = o
-ruled u (some r) o = (refused r, u)
-
-abbrev judged : Option ℕ → ℕ → Judged
-judged none p = found p
-judged (some r) p = fails r
 
 on-judged : (t : Table) (f : Option ℕ) (p : ℕ) (accept : ℕ → Out) → on t (judged f p) accept ≡ ruled t f (accept p)
 on-judged t none p accept = refl
@@ -44,10 +29,6 @@ ruled-on : (t : Table) (j : Judged) (f : Option ℕ) (p : ℕ) (accept : ℕ →
 ruled-on t j f p accept e = ap (λ (z : Judged). on t z accept) e ∙ on-judged t f p accept
 
 -- no other number is given
-abbrev pub numbers : Tests → List ℕ
-numbers [] = []
-numbers (e ∷ l) = e .1 ∷ numbers l
-
 pub first-number : (l : Tests) (r : ℕ) → first l ≡ some r → List·Memᴰ r (numbers l)
 first-number [] r e = let z : _≡_ {A = ℕ} 0 1 = cc in absurd (omega arith)
 first-number (e ∷ l) r q =
@@ -64,55 +45,28 @@ pub ruled-either : (P : Table → Type 0) (t : Table) (c : Out) (f : Option ℕ)
 ruled-either P t c none o e same accepted = subst (λ (z : Out). P (z .1)) (sym e) (accepted refl)
 ruled-either P t c (some r) o e same accepted = subst (λ (z : Out). P (z .1)) (sym e) same
 
--- ---- the tests of each call, in the rules' order: 1; then 2, 3 or 4; then 5
-
--- lookup and put
-abbrev pub placeTests : Table → ℕ → Tests
-placeTests t k = (hasShape t, 1) ∷ (isLive t (idx k) (version k), dead t (idx k) (version k)) ∷ (isHeld t (idx k) (version k), 5) ∷ []
-
--- remove and detach
-abbrev pub leaveTests : Table → ℕ → Tests
-leaveTests t k = (hasShape t, 1) ∷ (isLive t (idx k) (version k), dead t (idx k) (version k)) ∷ (isHeld t (idx k) (version k), 5) ∷ (lastInRange t, 5) ∷ []
-
--- insert: of the free head, or of a new slot
-abbrev pub slotTests : Table → Tests
-slotTests t = cond (ltb (t .head .f) (t .head .s)) ((headIsFree t, 5) ∷ []) ((leb (t .head .s) (cap t), 3) ∷ [])
-
-abbrev pub insertTests : Table → Tests
-insertTests t = (hasShape t, 1) ∷ slotTests t
-
-abbrev pub reattachTests : Table → ℕ → Tests
-reattachTests t k = (hasShape t, 1) ∷ (isDetached t (idx k) (version k), 4) ∷ (hasPlace t, 5) ∷ []
-
-abbrev pub drainTests : Table → Tests
-drainTests t = (hasShape t, 1) ∷ cond (eqb (t .head .n) 0) [] ((lastIsHeld t, 5) ∷ [])
-
--- retain and clear
-abbrev pub sweepTests : Table → Tests
-sweepTests t = (hasShape t, 1) ∷ (isSound t, 5) ∷ []
-
 -- ---- each call over its tests
 
 module _ (t : Table) where
-  place-judged : (k : ℕ) → place t k ≡ judged (first (placeTests t k)) (link t (idx k))
+  pub place-ruled : (k : ℕ) → place t k ≡ judged (first (placeTests t k)) (link t (idx k))
   unfolding place placeIn
-  place-judged k =
+  place-ruled k =
       split (hasShape t)
       (λ a. rw a (split (isLive t (idx k) (version k)) (λ b. rw b (split (isHeld t (idx k) (version k)) (λ c. rw c) (λ c. rw c))) (λ b. rw b)))
       (λ a. rw a)
 
   pub lookup-ruled : (k : ℕ) → lookup t k ≡ ruled t (first (placeTests t k)) (said-value (val t (link t (idx k))), t)
   unfolding lookup
-  lookup-ruled k = ruled-on t (place t k) (first (placeTests t k)) (link t (idx k)) _ (place-judged k)
+  lookup-ruled k = ruled-on t (place t k) (first (placeTests t k)) (link t (idx k)) _ (place-ruled k)
 
   pub put-ruled : (k x : ℕ) → put t k x ≡ ruled t (first (placeTests t k)) (said-value (val t (link t (idx k))), withValue t (link t (idx k)) x)
   unfolding put
-  put-ruled k x = ruled-on t (place t k) (first (placeTests t k)) (link t (idx k)) _ (place-judged k)
+  put-ruled k x = ruled-on t (place t k) (first (placeTests t k)) (link t (idx k)) _ (place-ruled k)
 
   leaving-judged : (k : ℕ) → leaving t k ≡ judged (first (leaveTests t k)) (link t (idx k))
   unfolding leaving
   leaving-judged k =
-      ap (lastOf t) (place-judged k)
+      ap (lastOf t) (place-ruled k)
       ∙ split (hasShape t)
       (λ a. rw a (split (isLive t (idx k) (version k)) (λ b. rw b (split (isHeld t (idx k) (version k))
       (λ c. rw c (split (lastInRange t) (λ d. rw d) (λ d. rw d)))
@@ -127,11 +81,7 @@ module _ (t : Table) where
   unfolding detach
   detach-ruled k = ruled-on t (leaving t k) (first (leaveTests t k)) (link t (idx k)) _ (leaving-judged k)
 
-  -- the key that insert issues
-  abbrev pub issues : ℕ
-  issues = cond (ltb (t .head .f) (t .head .s)) (pack (t .head .f) (odd (ver t (t .head .f)))) (pack (t .head .s) 1)
-
-  next-judged : next t ≡ judged (first (insertTests t)) issues
+  next-judged : next t ≡ judged (first (insertTests t)) (issues t)
   unfolding next nextIn
   next-judged =
       split (hasShape t)
@@ -140,9 +90,9 @@ module _ (t : Table) where
       (λ b. rw b (split (leb (t .head .s) (cap t)) (λ c. rw c) (λ c. rw c)))))
       (λ a. rw a)
 
-  pub insert-ruled : (x : ℕ) → insert t x ≡ ruled t (first (insertTests t)) (said-key issues, inserted t issues x)
+  pub insert-ruled : (x : ℕ) → insert t x ≡ ruled t (first (insertTests t)) (said-key (issues t), inserted t (issues t) x)
   unfolding insert
-  insert-ruled x = ruled-on t (next t) (first (insertTests t)) issues _ next-judged
+  insert-ruled x = ruled-on t (next t) (first (insertTests t)) (issues t) _ next-judged
 
   -- the next key is the very key, or the very refusal, that insert answers
   pub insert-next-key : (x : ℕ) → insert t x .0 ≡ nextKey t
@@ -152,6 +102,10 @@ module _ (t : Table) where
       answers : (j : Judged) → on t j (λ k. (said-key k, inserted t k x)) .0 ≡ keySaid j
       answers (found k) = refl
       answers (fails r) = refl
+
+  pub next-key-ruled : nextKey t ≡ keySaid (judged (first (insertTests t)) (issues t))
+  unfolding nextKey
+  next-key-ruled = ap keySaid next-judged
 
   berth-judged : (k : ℕ) → berth t k ≡ judged (first (reattachTests t k)) (idx k)
   unfolding berth berthIn
@@ -164,11 +118,7 @@ module _ (t : Table) where
   unfolding reattach
   reattach-ruled k x = ruled-on t (berth t k) (first (reattachTests t k)) (idx k) _ (berth-judged k)
 
-  -- what a drain step does that is not refused
-  abbrev pub drains : Out
-  drains = cond (eqb (t .head .n) 0) (said-done, t) (said-pair (key t (last t)) (val t (last t)), freed t (lastIdx t) (t .head .f) (freedHead (t .head) (lastIdx t)))
-
-  pub drain-ruled : drain t ≡ ruled t (first (drainTests t)) drains
+  pub drain-ruled : drain t ≡ ruled t (first (drainTests t)) (drains t)
   unfolding drain
   drain-ruled =
       split (hasShape t)
@@ -217,7 +167,13 @@ refused-keeps t c-drain = ruled-keeps t _ (first (drainTests t)) _ (drain-ruled 
 refused-keeps t (c-retain rule) = ruled-keeps t _ (first (sweepTests t)) _ (retain-ruled t rule) refl
 refused-keeps t c-clear = ruled-keeps t _ (first (sweepTests t)) _ (clear-ruled t) refl
 
--- fresh writes nothing where the lengths do not fit
+-- ---- fresh, by the lengths alone
+
+pub fresh-begun : (vs ls ks xs : List ℕ) (h : Header) → fresh vs ls ks xs .0 ≡ begins h → (lengthsFit vs ls ks xs ≡ true) × (h ≡ freshHead)
+unfolding fresh
+fresh-begun vs ls ks xs h = split (lengthsFit vs ls ks xs) (λ a. rw a (λ e. (refl, (cc)))) (λ a. rw a (λ e. let z : _≡_ {A = ℕ} 0 1 = cc in absurd (omega arith)))
+
+-- it writes nothing where the lengths do not fit
 pub fresh-refused-keeps : (vs ls ks xs : List ℕ) (r : ℕ) → fresh vs ls ks xs .0 ≡ cannot r → fresh vs ls ks xs .1 ≡ (vs, ls)
 unfolding fresh
 fresh-refused-keeps vs ls ks xs r =

@@ -2,7 +2,6 @@
 -- 2 ^ 32; removals come at odd and inserts at even clocks, so half the way that the clock has gone is the number of removals. Assumes nothing.
 use mathlib.Core.Path.{_≡_, refl, sym, ap, ap₂, _∙_}
 use mathlib.Core.Logic.{_⊎_, inl, by-cases, ⊎-elim}
-use mathlib.Core.Bool.{true}
 use mathlib.Core.List.{List, [], _∷_, _++_}
 use mathlib.Core.Option.{some}
 use Prim.Native.Nat.{ℕ, _+_, _/_, _%_, _≤_, _<_}
@@ -10,26 +9,24 @@ use native.Mathlib.Nat.{add-assoc, zero-add}
 use native.Mathlib.Omega.{arith}
 use native.Mathlib.Decide.{ℕ-discrete, decLt}
 use borrow.Author.Tests.{eq-eqb}
-use Rattle.keys.specs.Keys.{W, far, idx, pack, version, down}
+use Rattle.keys.specs.Keys.{W, far, idx, pack, version, asRead, down}
 use Rattle.keys.proofs.Keys.{idx-pack, version-pack, version-odd, version-word}
 use Rattle.keys.proofs.Versions.{down-up}
 use Rattle.table.specs.Table.{Table, ver, link}
 use Rattle.table.specs.Calls.{Said, said-key, refused, Out, insert}
 use Rattle.table.specs.Sound.{Sound}
 use Rattle.table.specs.Steps.{Call, c-insert, step, after, history}
-use Rattle.table.specs.Reading.{change, Reading, changed, reading, valueIn, isIn, removedAt, removals}
+use Rattle.table.specs.Reading.{change, Reading, changed, reading, valueIn, removedAt, removals, Known, round}
+use Rattle.table.specs.Begins.{Begins}
 use Rattle.table.proofs.Readings.{value-mem, in-mem}
 use Rattle.table.proofs.Judged.{live}
 use Rattle.table.proofs.Orderly.{orderly}
 use Rattle.table.proofs.Enter.{head-free}
 use Rattle.table.proofs.Cases.{insert-ways, insert-taken, insert-grown, insert-full}
-use Rattle.table.proofs.Begins.{Begins, base-live, base-detached, begins-after}
+use Rattle.table.proofs.Begins.{base-live, base-detached, begins-after}
+use Rattle.table.proofs.Promises.{insert-new}
 use Rattle.table.proofs.Clock.{clock, clock-odd, clock-away, clock-free, clock-new}
 use Rattle.table.proofs.Turns.{Turns, step-turns}
-
--- as many removals at an index bring its versions round
-abbrev pub round : ℕ
-round = 2147483648
 
 -- ---- the clock through a list of calls
 
@@ -105,11 +102,7 @@ issue-clock t a x k e =
     let z : _≡_ {A = ℕ} 0 1 = cc in
     absurd (omega arith))
 
--- a key is live or detached
-abbrev pub Known : Reading → ℕ → Type 0
-Known r k = ((x : ℕ) × (valueIn (r .live) k ≡ some x)) ⊎ (isIn (r .detached) k ≡ true)
-
--- its version is the clock's
+-- a known key's version is the clock's
 known-clock : (t : Table) (base : Reading) → Begins t base → (k : ℕ) → Known base k → clock t (idx k) ≡ version k
 known-clock t base b k h =
     ⊎-elim
@@ -161,16 +154,19 @@ module _ (t : Table) (base : Reading) (cs : List Call) where
       let r = reissue-base (after t cs) _ (begins-after t base b cs) ds y k h (ap (λ (u : Table). insert u y .0) (sym (after-more ds)) ∙ e) in
       omega (arith, r, removals-more (idx k) ds)
 
--- ---- two inserts that answer one key
+-- ---- two inserts that answer one key, as read
 
 -- after the first the key is live
-insert-lives : (t : Table) (base : Reading) (cs : List Call) (x k : ℕ) → insert (after t cs) x .0 ≡ said-key k
+insert-lives : (t : Table) (base : Reading) (cs : List Call) (x k : ℕ) → asRead k ≡ k → insert (after t cs) x .0 ≡ said-key k
     → valueIn (reading base (history t (c-insert x ∷ cs)) .live) k ≡ some x
 unfolding history reading step change changed valueIn
-insert-lives t base cs x k e =
-    ap (λ (s : Said). valueIn (changed (change (c-insert x) s) (reading base (history t cs)) .live) k) e ∙ rw (eq-eqb k k refl)
+insert-lives t base cs x k q e =
+    ap (λ (s : Said). valueIn (changed (change (c-insert x) s) (reading base (history t cs)) .live) k) e ∙ rw (q, eq-eqb k k refl)
 
-pub reissue : (t : Table) (base : Reading) → Begins t base → (cs ds : List Call) (x y k : ℕ) → insert (after t cs) x .0 ≡ said-key k
-    → insert (after t (ds ++ (c-insert x ∷ cs))) y .0 ≡ said-key k
+pub reissue : (t : Table) (base : Reading) → Begins t base → (cs ds : List Call) (x y j k : ℕ) → insert (after t cs) x .0 ≡ said-key j
+    → insert (after t (ds ++ (c-insert x ∷ cs))) y .0 ≡ said-key k → asRead j ≡ asRead k
     → removals base (history t (c-insert x ∷ cs)) (idx k) + round ≤ removals base (history t (ds ++ (c-insert x ∷ cs))) (idx k)
-reissue t base b cs ds x y k e f = reissue-known t base (c-insert x ∷ cs) b ds y k (inl (x, insert-lives t base cs x k e)) f
+reissue t base b cs ds x y j k e f same =
+    let r : asRead k ≡ k = insert-new t base b (ds ++ (c-insert x ∷ cs)) y k f .0 in
+    let q : j ≡ k = sym (insert-new t base b cs x j e .0) ∙ same ∙ r in
+    reissue-known t base (c-insert x ∷ cs) b ds y k (inl (x, insert-lives t base cs x k r (e ∙ ap said-key q))) f

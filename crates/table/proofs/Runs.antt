@@ -4,17 +4,7 @@ use mathlib.Core.Path.{_≡_, refl, sym, ap, ap₂, _∙_}
 use mathlib.Core.List.{List, [], _∷_}
 use Rattle.table.specs.Table.{Table}
 use Rattle.table.specs.Calls.{Out}
-use Rattle.table.specs.Steps.{Call, History, step, after, history}
-
--- from the table t the calls and answers h lead to the table u: each answer, with the table after it, is what the call gives
-abbrev pub Run : Table → History → Table → Type 0
-Run t [] u = u ≡ t
-Run t (e ∷ h) u = (before : Table) × Run t h before × ((e .1, u) ≡ step before (e .0))
-
--- the calls of a history
-abbrev pub callsOf : History → List Call
-callsOf [] = []
-callsOf (e ∷ h) = e .0 ∷ callsOf h
+use Rattle.table.specs.Steps.{Call, History, step, after, history, Run, callsOf}
 
 pub run-after : (t : Table) (h : History) (u : Table) → Run t h u → (u ≡ after t (callsOf h)) × (h ≡ history t (callsOf h))
 unfolding after history

@@ -1,18 +1,12 @@
--- The shape as facts, and the limit. Assumes nothing.
+-- The shape as facts. Assumes nothing.
 use mathlib.Core.Path.{_≡_}
-use mathlib.Core.Bool.{true, _&&_}
+use mathlib.Core.Bool.{true}
 use mathlib.Core.List.{List}
-use Prim.Native.Nat.{ℕ, _+_, _-_, _≤_, _<_}
+use Prim.Native.Nat.{ℕ, _+_, _-_, _≤_}
 use native.Mathlib.Omega.{arith}
-use lib.Dec.{leb, eqb}
 use lib.ListN.{length}
-use Rattle.keys.specs.Keys.{far}
 use Rattle.lists.proofs.Tests.{tests, parts}
 use Rattle.table.specs.Table.{Table, cap, limit, lengthsFit, hasShape}
-
--- no slot's number and no free head is the link of a detached slot
-pub limit-small : limit + 1 < far
-limit-small = omega arith
 
 pub record Lengths (vs ls ks xs : List ℕ) : Type 0 where
   pub small : length ks ≤ limit

@@ -1,18 +1,17 @@
 -- What the stores of a call leave, from the tests on the way. Assumes nothing.
-use mathlib.Core.Path.{_≡_, refl, sym, ap, _∙_}
+use mathlib.Core.Path.{_≡_, refl, sym, _∙_}
 use mathlib.Core.Logic.{_≢_}
 use mathlib.Core.Bool.{Bool, true, false, cond}
 use mathlib.Core.List.{List}
-use Prim.Native.Nat.{ℕ, _+_, _-_, _≤_, _<_}
+use Prim.Native.Nat.{ℕ, _-_, _≤_, _<_}
 use native.Mathlib.Omega.{arith}
-use lib.Dec.{ltb, eqb}
-use lib.ListN.{getD, set}
+use lib.ListN.{set}
 use borrow.Author.Tests.{eq-eqb, ne-eqb}
 use Rattle.keys.specs.Keys.{far, idx, asRead, up, down, odd}
 use Rattle.lists.proofs.Tests.{tests}
 use Rattle.table.specs.declared.Header.{Header}
 use Rattle.table.specs.Table.{Table, ver, link, key, val, hasShape, last, lastIdx, lastIsHeld, freedHead, partedHead, takenHead, grownHead, rejoinedHead, entered, freed, filled, left}
-use Rattle.table.specs.Calls.{Out, Judged, found, fails, said-value, said-pair, said-done, refused, inserted, leaving, remove, detach, berth, reattach, drain}
+use Rattle.table.specs.Calls.{Out, found, fails, said-value, said-pair, said-done, refused, inserted, leaving, remove, detach, berth, reattach, drain}
 use Rattle.table.proofs.Judged.{passed, went, found-same, Due, due}
 
 -- ---- insert

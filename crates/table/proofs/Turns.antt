@@ -19,8 +19,9 @@ use Rattle.table.specs.Table.{Table, ver, link, key, val, last, isLive, 
 use Rattle.table.specs.Calls.{Out}
 use Rattle.table.specs.Sound.{Sound}
 use Rattle.table.specs.Steps.{Call, step}
-use Rattle.table.specs.Reading.{change, Reading, removedAt, droppedAt, valueIn}
-use Rattle.table.proofs.Readings.{keysOf, none-value, drops, dropped-one}
+use Rattle.table.specs.Reading.{change, Reading, removedAt, droppedAt, valueIn, keysOf}
+use Rattle.table.specs.Begins.{find, Begins}
+use Rattle.table.proofs.Readings.{none-value, drops, dropped-one}
 use Rattle.table.proofs.Judged.{live}
 use Rattle.table.proofs.Orderly.{Orderly, Occupied, orderly}
 use Rattle.table.proofs.Leave.{Leaves, vacant-off, without-leaves, without-link, apart-leaves, apart-link}
@@ -28,9 +29,9 @@ use Rattle.table.proofs.Enter.{Enters, Widens, head-free, taken-widens,
 use Rattle.table.proofs.Cases.{live-occupied, live-place, detached-vacant, stored-occupied}
 use Rattle.table.proofs.Outcomes.{Outcome, outcome, refuses, looks, puts, takes, grows, removes, detaches, reattaches, drains, done, retains, clears}
 use Rattle.table.proofs.Sieve.{dropped, dropped-leaves, retained, cleared}
-use Rattle.table.proofs.Follows.{find, find-live, find-dead, find-not, find-stored, find-dropped}
+use Rattle.table.proofs.Follows.{find-live, find-dead, find-not, find-stored, find-dropped}
 use Rattle.table.proofs.Answers.{change-refused}
-use Rattle.table.proofs.Begins.{Begins, base-value}
+use Rattle.table.proofs.Begins.{base-value}
 use Rattle.table.proofs.Clock.{clock, clock-odd, clock-away, clock-free, clock-new, clock-same, own}
 use Rattle.table.proofs.Counted.{live-own-key}
 
@@ -220,7 +221,7 @@ module _ (t : Table) (base : Reading) (b : Begins t base) (i : ℕ) (hi : i < W)
   outcome-turns c r (drains h) =
       let l : last t < t .head .n = omega arith in
       let oj = stored-occupied t (b .sound) (last t) l in
-      inl (freed-falls t _ o _ oj (dropped-leaves t (b .sound) (last t) l) i (without-link t o _ oj))
+      rw (idx-read (key t (last t))) (inl (freed-falls t _ o _ oj (dropped-leaves t (b .sound) (last t) l) i (without-link t o _ oj)))
   outcome-turns c r (done h) = still t refl
   outcome-turns c r (retains rule) =
       rw (dropped-own (keepsOf rule)) (inl (retained (keepsOf rule) (Sweep (keepsOf rule)) (sweep-same (keepsOf rule)) (sweep-drop (keepsOf rule)) t (b .sound) i hi))

@@ -10,7 +10,7 @@ use Rattle.lists.specs.Among.{among}
 use Rattle.lists.proofs.Tests.{split}
 use Rattle.keys.specs.Keys.{idx, version, asRead}
 use Rattle.table.specs.Table.{Table, isLive, dead}
-use Rattle.table.specs.Calls.{Said, said-key, said-value, said-pair, said-done, said-count, said-truth, refused, Out, Judged, found, fails, placeIn, nextKey}
+use Rattle.table.specs.Calls.{Said, said-key, said-value, said-pair, said-done, said-count, said-truth, refused, Out, Judged, found, fails, placeIn, place, nextKey}
 use Rattle.table.specs.Sound.{Sound}
 use Rattle.table.specs.Sweeps.{Places, places, bars, placed, placesOf, given, disjoint}
 use Rattle.table.specs.Steps.{Call, c-insert, step}
@@ -64,7 +64,7 @@ module _ (t : Table) (a : Sound t) where
   unfolding step
   next-no-damage e = no-damage (c-insert 0) (insert-next-key t 0 ∙ e)
 
-  -- ---- disjoint
+  -- ---- place, and so disjoint
 
   barred : Places → ℕ
   barred (places ps) = 0
@@ -87,6 +87,10 @@ module _ (t : Table) (a : Sound t) where
       let f = place-in-dead t a k n in
       let q : dead t (idx k) (version k) ≡ r = cc in
       λ x. dead-not t _ _ (q ∙ x))
+
+  pub place-no-damage : (k : ℕ) → place t k ≡ fails 5 → ⊥
+  unfolding place
+  place-no-damage k e = place-not k 5 (rw (a .shape) at e) refl
 
   places-not : (ks earlier : List ℕ) → barred (placesOf t earlier ks) ≢ 5
   unfolding barred placesOf

@@ -4,14 +4,15 @@ use mathlib.Core.Bool.{Bool, cond}
 use mathlib.Core.List.{List, []}
 use Prim.Native.Nat.{ℕ, _+_}
 use lib.Dec.{leb, ltb, eqb}
-use lib.ListN.{length, set, take}
+use lib.ListN.{set, take}
 use Rattle.keys.specs.Keys.{far, idx, pack, version, asRead, odd, down}
 use Rattle.table.specs.declared.Header.{Header}
 use Rattle.table.specs.Table.{Table, ver, link, key, val, cap, lengthsFit, hasShape, isLive, dead, isDetached, isHeld, last, lastIdx, lastInRange, lastIsHeld, hasPlace, headIsFree, freedHead, partedHead, takenHead, grownHead, rejoinedHead, withValue, entered, freed, left}
 
 -- ---- answers
 
--- what a call answers: a key, a value, a key and its value, "done", a number, a yes or no; or the number of a refusal
+-- what a call answers: a key, a value, a key and its value, a number, a yes or no; that it is done ("done" of a drain step, and of the calls that have
+-- nothing else to say: reattach, retain, clear, disjoint); or the number of a refusal
 pub data Said : Type 0 where
   said-key : ℕ → Said
   said-value : ℕ → Said
@@ -46,12 +47,14 @@ pub data Begun : Type 0 where
 abbrev pub freshHead : Header
 freshHead = record { n = 0; s = 1; f = 1 }
 
-unfoldable pub freshTable : List ℕ → List ℕ → List ℕ → List ℕ → Table
-freshTable vs ls ks xs = record { versions = set vs 0 0; links = set ls 0 0; keys = ks; values = xs; head = freshHead }
-
 -- the answer, and the versions and links after it: "fresh and rebuild judge only the array lengths under 1"
 unfoldable pub fresh : List ℕ → List ℕ → List ℕ → List ℕ → Begun × (List ℕ × List ℕ)
 fresh vs ls ks xs = cond (lengthsFit vs ls ks xs) (begins freshHead, (set vs 0 0, set ls 0 0)) (cannot 1, (vs, ls))
+
+-- the table that it leaves, where it answers the header h
+abbrev pub freshTable : List ℕ → List ℕ → List ℕ → List ℕ → Header → Table
+freshTable vs ls ks xs h =
+    record { versions = fresh vs ls ks xs .1 .0; links = fresh vs ls ks xs .1 .1; keys = ks; values = xs; head = h }
 
 -- ---- calls that only look
 

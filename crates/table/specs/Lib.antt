@@ -5,3 +5,6 @@ pub mod Sweeps
 pub mod Steps
 pub mod Reading
 pub mod Thread
+pub mod Refused
+pub mod Frames
+pub mod Begins

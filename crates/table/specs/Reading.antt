@@ -1,6 +1,8 @@
 -- What a list of calls and answers says of the keys (the rules, section "What the promises have to say"):
 -- "that reading knows no slots, links, places or free list". Assumes nothing.
-use mathlib.Core.Bool.{Bool, false, cond}
+use mathlib.Core.Path.{_≡_}
+use mathlib.Core.Logic.{_⊎_}
+use mathlib.Core.Bool.{Bool, true, false, cond}
 use mathlib.Core.List.{List, [], _∷_}
 use mathlib.Core.Option.{Option, none, some}
 use Prim.Native.Nat.{ℕ, suc, _+_}
@@ -38,7 +40,7 @@ accepted (refused r) x = nothing
 
 -- the key that an answer issues, and the key that it says was drained
 abbrev pub issue : Said → ℕ → Change
-issue (said-key k) x = issued k x
+issue (said-key k) x = issued (asRead k) x
 issue (said-value v) x = nothing
 issue (said-pair k v) x = nothing
 issue said-done x = nothing
@@ -49,7 +51,7 @@ issue (refused r) x = nothing
 abbrev pub drained : Said → Change
 drained (said-key k) = nothing
 drained (said-value v) = nothing
-drained (said-pair k v) = dies k
+drained (said-pair k v) = dies (asRead k)
 drained said-done = nothing
 drained (said-count m) = nothing
 drained (said-truth b) = nothing
@@ -120,6 +122,15 @@ valueIn (e ∷ l) k = cond (eqb k (e .0)) (some (e .1)) (valueIn l k)
 abbrev pub isIn : List ℕ → ℕ → Bool
 isIn l k = among k l
 
+-- the live keys alone
+abbrev pub keysOf : List (ℕ × ℕ) → List ℕ
+keysOf [] = []
+keysOf (e ∷ l) = e .0 ∷ keysOf l
+
+-- a key is live or detached
+abbrev pub Known : Reading → ℕ → Type 0
+Known r k = ((x : ℕ) × (valueIn (r .live) k ≡ some x)) ⊎ (isIn (r .detached) k ≡ true)
+
 -- ---- removals at an index: "drops, drain steps and clears count as removals"
 
 -- the entries of index i that the rule does not keep
@@ -141,3 +152,7 @@ removedAt (sieved keeps) i r = droppedAt keeps i (r .live)
 unfoldable pub removals : Reading → History → ℕ → ℕ
 removals base [] i = 0
 removals base (e ∷ h) i = removedAt (change (e .0) (e .1)) i (reading base h) + removals base h i
+
+-- as many removals at an index bring its versions, which are odd numbers below 2 ^ 32, round to the same one
+abbrev pub round : ℕ
+round = 2147483648

@@ -1,4 +1,5 @@
 -- The calls as one type, and lists of calls (the rules, section "What the promises have to say"). Assumes nothing.
+use mathlib.Core.Path.{_≡_}
 use mathlib.Core.List.{List, [], _∷_}
 use Prim.Native.Nat.{ℕ}
 use Rattle.rules.specs.declared.Rule.{Rule}
@@ -41,3 +42,15 @@ after t (c ∷ cs) = step (after t cs) c .1
 unfoldable pub history : Table → List Call → History
 history t [] = []
 history t (c ∷ cs) = (c, step (after t cs) c .0) ∷ history t cs
+
+-- ---- the same as a chain of outcomes
+
+-- from the table t the calls and answers h lead to the table u: each answer, with the table after it, is what the call gives
+abbrev pub Run : Table → History → Table → Type 0
+Run t [] u = u ≡ t
+Run t (e ∷ h) u = (before : Table) × Run t h before × ((e .1, u) ≡ step before (e .0))
+
+-- the calls of a history
+abbrev pub callsOf : History → List Call
+callsOf [] = []
+callsOf (e ∷ h) = e .0 ∷ callsOf h

@@ -72,7 +72,8 @@ hasShape t =
 unfoldable pub isLive : Table → ℕ → ℕ → Bool
 isLive t i v = leb 1 i && (ltb i (t .head .s) && eqb (ver t i) v)
 
--- the refusal of a key that is not live
+-- the refusal of a key that is not live is 2. It uses neither the table nor the key that it is given: what cites it rests on no number, so a rule
+-- that told dead keys apart would change this line alone
 unfoldable pub dead : Table → ℕ → ℕ → ℕ
 dead t i v = 2
 
