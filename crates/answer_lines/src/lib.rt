@@ -1,14 +1,10 @@
-// The line that a program prints for an answer, and for a whole table or secondary map, in a lent buffer. A refusal is `refused ` and the rules'
-// number; keys print as they do in the script.
+// The line that a program prints for an answer, in a lent buffer. A refusal is `refused ` and the rules' number; keys print as they do in the script.
 ghost use mathlib.Core.Path.{_≡_};
 ghost use mathlib.Core.List.{[], _∷_};
 ghost use Rattle.keys.specs.Keys.{keyOf};
 ghost use Rattle.text.specs.Text.{decimal, keyText};
 ghost use Rattle.lines.specs.Lines.{page, wrote, wroteAll, space};
 ghost use Rattle.answer_lines.specs.Answers.{truthText, headerText, mapHeaderText, figures, textOf, lineOf};
-
-mod states;
-
 use answers::Answer;
 use answers::COUNTS;
 use answers::DONE;
@@ -29,8 +25,6 @@ use lines::bytes;
 use lines::key;
 use lines::labelled;
 use lines::number;
-pub use states::map_state;
-pub use states::state;
 
 fn pair(a: u64, b: u64, at: usize, out: &mut [u8]) -> usize
     ensures { λ r. ⌜ page r (now (out .exit)) ≡ wroteAll (page at (now (out .entry))) (decimal a ∷ space ∷ decimal b ∷ []) ⌝ }

@@ -339,7 +339,7 @@ fn tell_number(why: Refusal) {
 
 fn show(h: Header, versions: &[u32], links: &[u32], keys: &[u64], values: &[u64]) {
     let mut text = [0u8; 400];
-    let end = answer_lines::state(h, versions, links, keys, values, 0, &mut text);
+    let end = state_lines::state(h, versions, links, keys, values, 0, &mut text);
     say(first(&text, end));
 }
 

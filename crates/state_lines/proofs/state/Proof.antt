@@ -5,10 +5,10 @@ use Rattle.text.specs.Text.{decimal}
 use Rattle.lines.specs.Lines.{row}
 use Rattle.lines.proofs.Lines.{wroteAll-then}
 use Rattle.answers.specs.Kinds.{headed}
 use Rattle.answer_lines.specs.Answers.{lineOf}
-use Rattle.answer_lines.specs.States.{versionsText, linksText, keysText, valuesText}
-use Rattle.answer_lines.proofs.states.state.Statement.{statement}
-use Rattle.answer_lines.proofs.states.state.Tie as tie
+use Rattle.state_lines.specs.States.{versionsText, linksText, keysText, valuesText}
+use Rattle.state_lines.proofs.state.Statement.{statement}
+use Rattle.state_lines.proofs.state.Tie as tie
 
 returns : tie.Need-returns
 returns c =

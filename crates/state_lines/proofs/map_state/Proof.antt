@@ -5,10 +5,10 @@ use Rattle.text.specs.Text.{decimal}
 use Rattle.lines.specs.Lines.{row}
 use Rattle.lines.proofs.Lines.{wroteAll-then}
 use Rattle.answers.specs.Kinds.{answered, MAP-HEADER}
 use Rattle.answer_lines.specs.Answers.{lineOf}
-use Rattle.answer_lines.specs.States.{versionsText, valuesText}
-use Rattle.answer_lines.proofs.states.map_state.Statement.{statement}
-use Rattle.answer_lines.proofs.states.map_state.Tie as tie
+use Rattle.state_lines.specs.States.{versionsText, valuesText}
+use Rattle.state_lines.proofs.map_state.Statement.{statement}
+use Rattle.state_lines.proofs.map_state.Tie as tie
 
 returns : tie.Need-returns
 returns c =

@@ -1,8 +1,8 @@
-// Whole states as lines: the header, and each array with its name before it, past what the header counts too.
+// A whole table or secondary map as lines in a lent buffer: the header, and each array with its name before it, past what the header counts too.
 ghost use mathlib.Core.Path.{_≡_};
 ghost use Rattle.lines.specs.Lines.{page, wroteAll};
-ghost use Rattle.answer_lines.specs.States.{stateLines, mapStateLines};
-use crate::line;
+ghost use Rattle.state_lines.specs.States.{stateLines, mapStateLines};
+use answer_lines::line;
 use answers::Answer;
 use answers::MAP_HEADER;
 use lines::named_numbers;
