@@ -26,8 +26,8 @@ use Rattle.table.specs.Calls.{begins, cannot}
 use Rattle.table.specs.Thread.{nextFree}
 use Rattle.table.proofs.Shape.{Lengths}
 use Rattle.table.proofs.Shape as shape
-use Rattle.image.specs.Rebuild.{fitting, judgedImage, slotIn, isFull, isBare, verIn, linkIn, keyIn, valIn, rebuiltTo, rebuilt, rebuiltFrom, Arrays, arraysOf, begun, rebuild}
-use Rattle.image.proofs.Faults.{judgedAt, Ready, fitting-told, judged-refused, judged-ready}
+use Rattle.image.specs.Rebuild.{fitting, judgedImage, slotIn, isFull, isBare, verIn, linkIn, keyIn, valIn, rebuiltTo, rebuilt, rebuiltFrom, Arrays, arraysOf, begun, rebuild, judgedAt}
+use Rattle.image.proofs.Faults.{Ready, fitting-told, judged-refused, judged-ready}
 use Rattle.image.proofs.Slots.{first-full}
 use Rattle.image.proofs.Storing.{stored, stored-more, same-table, filled-few, lengths-to}
 

@@ -1,7 +1,7 @@
 // Rebuilds into the smallest and the largest table, and into arrays that are too long. The remarks of standard input say what follows.
 use dense::LIMIT;
-use image_read::Counts;
-use image_read::judge_image;
+use image_judge::Counts;
+use image_judge::judge_image;
 use image_read::rebuild;
 
 fn main() {
