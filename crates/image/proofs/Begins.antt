@@ -1,13 +1,11 @@
 -- A rebuilt table reads as the base of its occupied slots, with no key detached: so the theorems on lists of calls start from it too.
 -- Assumes nothing.
 use mathlib.Core.Path.{_≡_, refl, sym, ap, ap₂, _∙_}
-use mathlib.Core.Logic.{by-cases, ⊎-elim}
-use mathlib.Core.Bool.{Bool, true, false}
-use mathlib.Core.List.{List, [], _∷_, _++_, List·Memᴰ, List·Memᴰ·head, List·Memᴰ·tail, List·Memᴰ·cases-cons, List·Memᴰ·not-nil, List·Memᴰ·append-cases, List·Memᴰ·eq-of-singleton, Memᴰ·cast}
-use mathlib.Core.Option.{none, some}
-use Prim.Native.Nat.{ℕ, zero, suc, _+_, _<_}
+use mathlib.Core.Bool.{Bool, true}
+use mathlib.Core.List.{List, [], _∷_, _++_, List·Memᴰ, List·Memᴰ·head, List·Memᴰ·tail, List·Memᴰ·not-nil, Memᴰ·cast}
+use mathlib.Core.Option.{some}
+use Prim.Native.Nat.{ℕ, zero, suc, _<_}
 use native.Mathlib.Omega.{arith}
-use native.Mathlib.Decide.{ℕ-discrete}
 use lib.ListN.{length}
 use lib.Dec.{eqb}
 use borrow.Author.Tests.{eqb-true}
@@ -17,18 +15,19 @@ use Rattle.lists.proofs.Listed.{mem-picked, picked-mem, once-picked}
 use Rattle.numbers.proofs.Told.{both}
 use Rattle.lists.proofs.Tests.{split, true-false}
 use Rattle.lists.proofs.Once.{once-nil}
-use Rattle.keys.specs.Keys.{W, idx, pack, version, asRead}
+use Rattle.keys.specs.Keys.{idx, pack, version, asRead}
 use Rattle.keys.proofs.Keys.{pack-same, read-pack, read-is, is-read}
 use Rattle.records.specs.declared.Record.{Record}
 use Rattle.records.specs.Records.{versionOf}
 use Rattle.table.specs.Table.{Table}
-use Rattle.table.specs.Reading.{Reading, valueIn, isIn, keysOf}
+use Rattle.table.specs.Reading.{valueIn, keysOf}
 use Rattle.table.specs.Begins.{Begins}
 use Rattle.table.proofs.Readings.{none-value, mem-value}
-use Rattle.image.specs.Rebuild.{slotIn, valueOf, isFull, keyIn, valIn, rebuilt}
+use Rattle.image.specs.Rebuild.{slotIn, isFull, keyIn, valIn, rebuilt}
+use Rattle.image.specs.Recorded.{Given, isRecorded, recorded, Recorded, liveIn, baseOf}
 use Rattle.image.proofs.Slots.{full-low}
-use Rattle.image.proofs.Rebuilt.{Given, small, word-at, full-odd, sound-rebuilt}
-use Rattle.image.proofs.Lookups.{recorded, Recorded, isRecorded, is-recorded, recorded-is, recorded-full, find-rebuilt, detached-rebuilt}
+use Rattle.image.proofs.Rebuilt.{small, word-at, full-odd, sound-rebuilt}
+use Rattle.image.proofs.Lookups.{is-recorded, recorded-is, recorded-full, find-rebuilt, detached-rebuilt}
 
 -- ---- the keys of entries
 
@@ -54,13 +53,6 @@ value-in (e ∷ l) k x q =
     split (eqb k (e .0))
     (λ t. let w : some (e .1) ≡ some x = rw t at q in let z : e .1 ≡ x = cc in List·Memᴰ·head (ap₂ (λ (a b : ℕ). (a, b)) (eqb-true _ _ t) (sym z)))
     (λ t. List·Memᴰ·tail (value-in l k x (rw t at q)))
-
--- the keys of the occupied slots with their values
-abbrev pub liveIn : List Record → List (ℕ × ℕ)
-liveIn l = picked (isFull l) (λ i. (keyIn l i, valIn l i)) (length l)
-
-abbrev pub baseOf : List Record → Reading
-baseOf l = record { live = liveIn l; detached = [] }
 
 module _ (vs ls ks xs : List ℕ) (l : List Record) (g : Given vs ls ks xs l) where
   abbrev t : Table

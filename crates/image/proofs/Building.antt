@@ -10,9 +10,7 @@ use lib.ListN.{length, drop}
 use lib.Seq.{drop-cons}
 use Rattle.lists.specs.Count.{count}
 use Rattle.lists.specs.Listed.{listed, picked}
-use Rattle.lists.specs.Put.{put}
-use Rattle.lists.proofs.Put.{put-nil, length-put}
-use Rattle.lists.proofs.Listed.{length-listed, length-picked, count-few, count-fewer}
+use Rattle.lists.proofs.Put.{put-nil}
 use Rattle.numbers.specs.Told.{Told, tells, refused}
 use Rattle.numbers.proofs.Told.{never, told, both}
 use Rattle.records.specs.declared.Record.{Record}
@@ -26,9 +24,8 @@ use Rattle.table.specs.Calls.{begins, cannot}
 use Rattle.table.specs.Thread.{nextFree}
 use Rattle.table.proofs.Shape.{Lengths}
 use Rattle.table.proofs.Shape as shape
-use Rattle.image.specs.Rebuild.{fitting, judgedImage, slotIn, isFull, isBare, verIn, linkIn, keyIn, valIn, rebuiltTo, rebuilt, rebuiltFrom, Arrays, arraysOf, begun, rebuild, judgedAt}
+use Rattle.image.specs.Rebuild.{fitting, slotIn, rebuiltTo, rebuilt, rebuiltFrom, arrays, arraysOf, begun, rebuild, judgedAt}
 use Rattle.image.proofs.Faults.{Ready, fitting-told, judged-refused, judged-ready}
-use Rattle.image.proofs.Slots.{first-full}
 use Rattle.image.proofs.Storing.{stored, stored-more, same-table, filled-few, lengths-to}
 
 -- what is known before the first store: the lists' lengths fit, and an accepted list of so many records is read from a place on
@@ -147,9 +144,6 @@ count-is-length : (l : List Record) → summaryOf l .count ≡ length l
 unfolding summaryOf
 count-is-length [] = refl
 count-is-length (r ∷ l) = refl
-
-abbrev arrays : List ℕ → List ℕ → List ℕ → List ℕ → Arrays
-arrays vs ls ks xs = record { versions = vs; links = ls; keys = ks; values = xs }
 
 module _ (vs ls ks xs bytes : List ℕ) where
   pub rebuild-shape : lengthsFit vs ls ks xs ≡ false → (cannot 1, arrays vs ls ks xs) ≡ rebuild vs ls ks xs bytes

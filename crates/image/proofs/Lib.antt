@@ -7,3 +7,4 @@ pub mod Rebuilt
 pub mod Lookups
 pub mod Rewriting
 pub mod Begins
+pub mod Refused

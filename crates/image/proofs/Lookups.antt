@@ -1,14 +1,13 @@
 -- What a rebuilt table answers: lookup is the record at the key's index if the versions are equal, no key is detached, and the places are in slot order.
 -- Assumes nothing.
-use mathlib.Core.Path.{_≡_, refl, sym, ap, _∙_}
+use mathlib.Core.Path.{_≡_, sym, ap, _∙_}
 use mathlib.Core.Logic.{by-cases}
-use mathlib.Core.Bool.{Bool, true, false, cond, _&&_}
+use mathlib.Core.Bool.{true, false}
 use mathlib.Core.List.{List}
-use mathlib.Core.Option.{Option, none, some}
-use Prim.Native.Nat.{ℕ, _+_, _%_, _≤_, _<_}
+use mathlib.Core.Option.{some}
+use Prim.Native.Nat.{ℕ, _≤_, _<_}
 use native.Mathlib.Omega.{arith}
 use native.Mathlib.Decide.{decLt}
-use lib.Dec.{leb, ltb, eqb}
 use lib.ListN.{length}
 use Rattle.lists.specs.Count.{count}
 use Rattle.lists.proofs.Tests.{split, and-true, tests, parts, same-test}
@@ -16,30 +15,19 @@ use Rattle.lists.proofs.Listed.{count-below, count-reaches}
 use Rattle.keys.specs.Keys.{far, idx, version}
 use Rattle.keys.proofs.Keys.{version-odd, idx-pack}
 use Rattle.records.specs.declared.Record.{Record}
-use Rattle.records.specs.Records.{versionOf}
-use Rattle.table.specs.Table.{Table, ver, link, key, val, isLive, isDetached}
+use Rattle.table.specs.Table.{Table, link, key, val, isLive, isDetached}
 use Rattle.table.specs.Calls.{said-value, Out, lookup}
 use Rattle.table.specs.Begins.{find, valueOr}
+use Rattle.table.proofs.Shape.{lengths}
 use Rattle.table.proofs.Judged.{Live, live}
 use Rattle.table.proofs.Facts.{facts-live, not-detached}
 use Rattle.table.proofs.Cases.{lookup-live, lookup-dead}
 use Rattle.table.proofs.Follows.{find-live, find-dead}
 use Rattle.table.proofs.Thread.{next-high}
-use Rattle.image.specs.Rebuild.{slotIn, valueOf, isFull, isBare, valIn, rebuilt}
-use Rattle.image.proofs.Slots.{by-record, full-low, vacant-link, occupied-link, occupied-full}
-use Rattle.image.proofs.Rebuilt.{Given, slots-are, places-are, link-at, ver-at, key-at, val-at, full-link, small, odd-full, orderly-rebuilt, sound-rebuilt, version-at}
-
--- the record of a key: the one at its index, if that has its version
-unfoldable pub isRecorded : List Record → ℕ → Bool
-isRecorded l k = leb 1 (idx k) && (ltb (idx k) (length l) && eqb (versionOf (slotIn l (idx k))) (version k))
-
-unfoldable pub recorded : List Record → ℕ → Option ℕ
-recorded l k = cond (isRecorded l k) (some (valueOf (slotIn l (idx k)))) none
-
-pub record Recorded (l : List Record) (k : ℕ) : Type 0 where
-  pub low : 1 ≤ idx k
-  pub high : idx k < length l
-  pub same : versionOf (slotIn l (idx k)) ≡ version k
+use Rattle.image.specs.Rebuild.{slotIn, isFull, isBare, valIn, rebuilt}
+use Rattle.image.specs.Recorded.{Given, isRecorded, recorded, Recorded}
+use Rattle.image.proofs.Slots.{by-record, vacant-link, occupied-link, occupied-full}
+use Rattle.image.proofs.Rebuilt.{slots-are, places-are, link-at, key-at, val-at, full-link, small, odd-full, orderly-rebuilt, sound-rebuilt, version-at}
 
 pub is-recorded : (l : List Record) (k : ℕ) → isRecorded l k ≡ true → Recorded l k
 unfolding isRecorded
@@ -101,7 +89,7 @@ module _ (vs ls ks xs : List ℕ) (l : List Record) (g : Given vs ls ks xs l) wh
   link-small i low h =
       let e = link-at vs ls ks xs l g i h in
       by-record (slotIn l i)
-      (λ v q. omega (arith, e, vacant-link l i low v q, next-high (isBare l) (length l) i (omega arith), g .few, g .lengths))
+      (λ v q. omega (arith, e, vacant-link l i low v q, next-high (isBare l) (length l) i (omega arith), g .few, lengths vs ls ks xs (g .fit)))
       (λ v x q. omega (arith, e, occupied-link l i low v x q, count-below (isFull l) (length l) i h (occupied-full l i low v x q), places-are vs ls ks xs l g, orderly-rebuilt vs ls ks xs l g .shape, slots-are vs ls ks xs l g))
 
   pub detached-rebuilt : (i v : ℕ) → isDetached t i v ≡ false

@@ -2,9 +2,9 @@
 -- vacant ones are the free list, the last one first. Assumes nothing.
 use mathlib.Core.Path.{_≡_, refl, sym, ap, _∙_}
 use mathlib.Core.Logic.{by-cases, inl}
-use mathlib.Core.Bool.{true, false}
+use mathlib.Core.Bool.{true}
 use mathlib.Core.List.{List}
-use Prim.Native.Nat.{ℕ, suc, _+_, _-_, _%_, _^_, _≤_, _<_}
+use Prim.Native.Nat.{ℕ, _%_, _≤_, _<_}
 use native.Mathlib.Nat.{zero-add}
 use native.Mathlib.Omega.{arith}
 use native.Mathlib.Decide.{ℕ-discrete}
@@ -14,20 +14,20 @@ use Rattle.lists.specs.Put.{put}
 use Rattle.lists.specs.Listed.{listed, picked}
 use Rattle.lists.proofs.Put.{getD-put-in, getD-put-after}
 use Rattle.lists.proofs.Listed.{length-listed, getD-listed, length-picked, getD-picked, count-below, count-reaches}
-use Rattle.numbers.specs.Told.{tells}
 use Rattle.keys.specs.Keys.{W, idx, vsn, pack}
 use Rattle.keys.proofs.Keys.{idx-pack, vsn-pack}
 use Rattle.records.specs.declared.Record.{Record}
-use Rattle.records.specs.Records.{versionOf, FitAll}
+use Rattle.records.specs.Records.{versionOf}
 use Rattle.table.specs.Table.{Table, ver, link, key, val}
 use Rattle.table.specs.Sound.{Vacant, Home, Sound, freeList}
 use Rattle.table.specs.Thread.{nextFree, joined}
-use Rattle.table.proofs.Shape.{Lengths, Shape}
+use Rattle.table.proofs.Shape.{Shape, lengths}
 use Rattle.table.proofs.Chains.{Chain}
 use Rattle.table.proofs.Thread.{next-low, next-high, joins-joined, thread-chain}
 use Rattle.table.proofs.Orderly.{Orderly, sound, free-walk}
-use Rattle.image.specs.Rebuild.{fitting, slotIn, isFull, isBare, verIn, linkIn, keyIn, valIn, rebuiltTo, rebuilt}
-use Rattle.image.proofs.Slots.{by-record, first-full, first-bare, first-version, first-link, version-is, vacant-full, vacant-bare, vacant-link, vacant-version, occupied-full, occupied-bare, occupied-link, occupied-version, full-low, bare-low, full-is, bare-is, fitting-some, vacant-even, occupied-odd, fit-at, version-fits}
+use Rattle.image.specs.Rebuild.{slotIn, isFull, isBare, verIn, linkIn, keyIn, valIn, rebuiltTo, rebuilt}
+use Rattle.image.specs.Recorded.{Given}
+use Rattle.image.proofs.Slots.{by-record, first-bare, first-version, first-link, version-is, vacant-bare, vacant-link, vacant-version, occupied-full, occupied-link, occupied-version, full-low, bare-low, full-is, bare-is, fitting-some, vacant-even, occupied-odd, fit-at, version-fits}
 use Rattle.image.proofs.Storing.{filled-few, lengths-to}
 
 -- what stands at the front of a list, and past it
@@ -36,13 +36,6 @@ front b t i h = ap (λ (n : ℕ). getD (put b 0 t) n 0) (sym (zero-add i)) ∙ g
 
 past : (b t : List ℕ) (i n : ℕ) → length t ≡ n → n ≤ i → getD (put b 0 t) i 0 ≡ getD b i 0
 past b t i n e h = getD-put-after b 0 t i (omega arith) (omega arith)
-
--- lists whose lengths fit, and an accepted list of records for them
-pub record Given (vs ls ks xs : List ℕ) (l : List Record) : Type 0 where
-  pub lengths : Lengths vs ls ks xs
-  pub fits : fitting l ≡ tells l
-  pub few : length l ≤ length ks + 1
-  pub words : FitAll l
 
 module _ (vs ls ks xs : List ℕ) (l : List Record) (g : Given vs ls ks xs l) where
   abbrev t : Table
@@ -96,7 +89,7 @@ module _ (vs ls ks xs : List ℕ) (l : List Record) (g : Given vs ls ks xs l) wh
     full-odd = full-is l i f (λ v x e. ap (λ (r : Record). versionOf r % 2) e ∙ occupied-odd l (g .fits) i (full-low l i f) h v x e)
 
   pub small : (i : ℕ) → i < length l → i < W
-  small i h = omega (arith, g .few, g .lengths)
+  small i h = omega (arith, g .few, lengths vs ls ks xs (g .fit))
 
   pub word-at : (i : ℕ) → i < length l → versionOf (slotIn l i) < W
   word-at i h = omega (arith, version-fits (slotIn l i) (fit-at l (g .words) i h))
@@ -176,7 +169,7 @@ module _ (vs ls ks xs : List ℕ) (l : List Record) (g : Given vs ls ks xs l) wh
   shape : Shape t
   unfolding rebuilt
   shape =
-      let w = lengths-to vs ls ks xs (g .lengths) l (g .fits) (g .few) (length l) (omega arith) in
+      let w = lengths-to vs ls ks xs (lengths vs ls ks xs (g .fit)) l (g .fits) (g .few) (length l) (omega arith) in
       let s = slots-are in
       let n = places-are in
       let f = free-is in
@@ -186,7 +179,7 @@ module _ (vs ls ks xs : List ℕ) (l : List Record) (g : Given vs ls ks xs l) wh
         w .0,
         w .1,
         g .few,
-        filled-few vs ls ks xs (g .lengths) l (g .fits) (g .few) (length l),
+        filled-few vs ls ks xs (lengths vs ls ks xs (g .fit)) l (g .fits) (g .few) (length l),
         next-low (isBare l) (length l) (first-bare l) some (length l),
         next-high (isBare l) (length l) (length l) (omega arith),
       )

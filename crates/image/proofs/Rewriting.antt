@@ -2,43 +2,49 @@
 -- rebuilt table is the image read, where that began with the record 0, 0. Assumes nothing.
 use mathlib.Core.Path.{_≡_, refl, sym, ap, ap₂, _∙_}
 use mathlib.Core.Logic.{by-cases}
-use mathlib.Core.Bool.{true, false, cond}
+use mathlib.Core.Bool.{true, false}
 use mathlib.Core.List.{List}
-use mathlib.Core.Option.{some}
-use Prim.Native.Nat.{ℕ, _+_, _-_, _%_, _^_, _≤_, _<_}
+use mathlib.Core.Option.{Option, none, some}
+use Prim.Native.Nat.{ℕ, _+_, _%_, _^_, _≤_, _<_}
 use native.Mathlib.Omega.{arith}
 use native.Mathlib.Decide.{ℕ-discrete}
-use lib.Dec.{eqb}
 use lib.ListN.{length}
-use borrow.Author.Tests.{eqb-true, eq-eqb, ne-eqb}
+use borrow.Author.Tests.{eq-eqb, ne-eqb, le-leb}
 use Rattle.lists.proofs.Tests.{split, true-false, false-if}
-use Rattle.lists.specs.Listed.{listed}
+use Rattle.lists.specs.Put.{put}
 use Rattle.lists.proofs.Listed.{length-listed, getD-listed, listed-same}
-use Rattle.numbers.specs.Told.{tells, onward}
+use Rattle.numbers.specs.Told.{tells}
 use Rattle.numbers.specs.Numbers.{Bytes}
-use Rattle.numbers.proofs.Told.{by-answer, told}
-use Rattle.keys.specs.Keys.{W, idx, version}
+use Rattle.numbers.proofs.Told.{by-answer, both}
+use Rattle.keys.specs.Keys.{idx, version}
 use Rattle.keys.proofs.Keys.{version-odd}
 use Rattle.records.specs.declared.Record.{Record}
 use Rattle.records.specs.declared.Record.the-variants.{Vacant, Occupied}
 use Rattle.records.specs.Records.{versionOf, presenceOf, recordsOf, bytesOf, Fit, FitAll}
 use Rattle.summaries.specs.Summaries.{wrongOf}
-use Rattle.records.proofs.Images.{read-written, written-read, Accepted}
+use Rattle.records.proofs.Images.{read-written, written-read}
+use Rattle.table.specs.declared.Header.{Header}
 use Rattle.table.specs.Table.{Table, ver, link, val, isLive, lengthsFit}
 use Rattle.table.specs.Calls.{begins}
-use Rattle.table.specs.Sound.{Sound, isOdd}
+use Rattle.table.specs.Sound.{Sound}
 use Rattle.table.specs.Begins.{find}
-use Rattle.table.proofs.Shape.{Lengths, lengths, shape}
-use Rattle.table.proofs.Judged.{Live, live}
+use Rattle.table.proofs.Shape.{shape}
+use Rattle.table.proofs.Judged.{live}
 use Rattle.table.proofs.Facts.{facts-live}
 use Rattle.table.proofs.Orderly.{Orderly, orderly}
 use Rattle.table.proofs.Follows.{find-live, find-dead}
-use Rattle.image.specs.Image.{slotOf, imageOf, imageBytes}
-use Rattle.image.specs.Rebuild.{firstWrong, fitting, judgedImage, slotIn, valueOf, rebuilt, arraysOf, rebuiltFrom, rebuild}
+use Rattle.table.proofs.Decides.{sound-passes}
+use Rattle.table.specs.Refused.{first}
+use Rattle.table.proofs.Refused.{first-holds}
+use Rattle.image.specs.Image.{slotOf, imageOf, imageBytes, writeImage}
+use Rattle.image.specs.Rebuild.{firstWrong, fitting, judgedImage, slotIn, valueOf, rebuilt, Arrays, arraysOf, tableOf, rebuiltFrom, rebuild}
+use Rattle.image.specs.Recorded.{Given, isRecorded, recorded}
+use Rattle.image.specs.Refused.{recordsIn, imageTests, rebuildTests}
 use Rattle.image.proofs.Faults.{fitting-same, fitting-told}
 use Rattle.image.proofs.Slots.{by-record, first-version, fits-from, fit-all, vacant-even, occupied-odd, occupied-full, fitting-some}
-use Rattle.image.proofs.Rebuilt.{Given, slots-are, ver-at, version-at, full-link, val-at}
-use Rattle.image.proofs.Lookups.{isRecorded, recorded, Recorded, is-recorded, recorded-is, find-rebuilt}
+use Rattle.image.proofs.Rebuilt.{slots-are, ver-at, version-at, full-link, val-at, sound-rebuilt}
+use Rattle.image.proofs.Lookups.{is-recorded, recorded-is, find-rebuilt}
+use Rattle.image.proofs.Refused.{image-ruled, rebuild-ruled, write-ruled}
 
 -- ---- a slot's record
 
@@ -106,7 +112,7 @@ module _ (t : Table) (a : Sound t) (machine : (p : ℕ) → p < t .head .n → v
 
   module _ (vs ls ks xs : List ℕ) (fit : lengthsFit vs ls ks xs ≡ true) (room : t .head .s ≤ length ks + 1) where
     pub image-given : Given vs ls ks xs (imageOf t)
-    image-given = record { lengths = lengths vs ls ks xs fit; fits = image-fits; few = omega (arith, image-length); words = image-words }
+    image-given = record { fit = fit; fits = image-fits; few = omega (arith, image-length); words = image-words }
 
     abbrev u : Table
     u = rebuilt vs ls ks xs (imageOf t)
@@ -157,7 +163,7 @@ image-is-given vs ls ks xs bytes l fit b e =
     by-answer (recordsOf bytes (length ks + 1)) fitting l e (λ m f g.
     let q = fitting-same m l g in
     let w = written-read bytes (length ks + 1) l b (f ∙ ap tells q) in
-    (record { lengths = lengths vs ls ks xs fit; fits = fitting-told bytes (length ks + 1) l e; few = w .few; words = w .fit }, w .bytes-of))
+    (record { fit = fit; fits = fitting-told bytes (length ks + 1) l e; few = w .few; words = w .fit }, w .bytes-of))
 
 module _ (vs ls ks xs : List ℕ) (l : List Record) (g : Given vs ls ks xs l) where
   abbrev built : Table
@@ -198,3 +204,28 @@ unfolding imageBytes
 write-rebuild vs ls ks xs bytes l fit b e first =
     let w = image-is-given vs ls ks xs bytes l fit b e in
     ap bytesOf (image-rebuilt vs ls ks xs l (w .0) first) ∙ sym (w .1)
+
+-- ---- the two calls: what rebuild began, written again
+
+module _ (vs ls ks xs bytes : List ℕ) (h : Header) (a : Arrays) (began : rebuild vs ls ks xs bytes ≡ (begins h, a)) where
+  abbrev list : List Record
+  list = recordsIn bytes .0
+
+  -- every test held, so the table is the one of the records
+  passed : (f : Option ℕ) → first (rebuildTests vs ls ks xs bytes) ≡ f
+      → (first (rebuildTests vs ls ks xs bytes) ≡ none) × (tableOf h a ≡ rebuilt vs ls ks xs list)
+  passed none e =
+      let q = both (sym (rw e at (rebuild-ruled vs ls ks xs bytes)) ∙ began) in
+      let p : h ≡ rebuilt vs ls ks xs list .head = cc in
+      (e, ap₂ tableOf p (sym (q .1)))
+  passed (some r) e = let q = both (sym (rw e at (rebuild-ruled vs ls ks xs bytes)) ∙ began) in let z : _≡_ {A = ℕ} 0 1 = cc in absurd (omega arith)
+
+  -- "writing a rebuilt table gives back the bytes read, if the first record was 0, 0"
+  pub write-again : Bytes bytes → slotIn list 0 ≡ Vacant 0 → (out : List ℕ) → length bytes ≤ length out → writeImage (tableOf h a) out ≡ (tells (length bytes), put out 0 bytes)
+  write-again b zero out room =
+      let p = passed _ refl in
+      let fit = first-holds (lengthsFit vs ls ks xs) 1 (imageTests bytes (length ks + 1)) (p .0) in
+      let none-left : first (imageTests bytes (length ks + 1)) ≡ none = rw fit at (p .0) in
+      let image : judgedImage bytes (length ks + 1) ≡ tells list = rw none-left at (image-ruled bytes (length ks + 1)) in
+      let sound = sound-rebuilt vs ls ks xs list (image-is-given vs ls ks xs bytes list fit b image .0) in
+      rw (p .1, write-ruled (rebuilt vs ls ks xs list) out, sound .shape, sound-passes (rebuilt vs ls ks xs list) sound, write-rebuild vs ls ks xs bytes list fit b image zero, le-leb (length bytes) (length out) room)

@@ -3,12 +3,12 @@
 use mathlib.Core.Path.{_≡_, refl, sym, ap, _∙_}
 use mathlib.Core.Bool.{true, false}
 use mathlib.Core.List.{List, [], _∷_}
-use Prim.Native.Nat.{ℕ, zero, suc, _+_, _%_, _^_, _≤_, _<_}
+use Prim.Native.Nat.{ℕ, zero, suc, _%_, _^_, _≤_, _<_}
 use native.Mathlib.Omega.{arith}
 use lib.Dec.{eqb}
 use lib.ListN.{length, getD}
 use borrow.Author.Tests.{eqb-true, eq-eqb, ne-eqb, le-leb, lt-leb}
-use Rattle.lists.proofs.Tests.{split, and-true, false-if, tests, parts, true-false}
+use Rattle.lists.proofs.Tests.{split, parts, true-false}
 use Rattle.lists.specs.Count.{count}
 use Rattle.numbers.specs.Told.{tells}
 use Rattle.numbers.proofs.Told.{never}
@@ -17,7 +17,7 @@ use Rattle.records.specs.declared.Record.the-variants.{Vacant, Occupied}
 use Rattle.records.specs.Records.{versionOf, presenceOf, Fit, FitAll}
 use Rattle.summaries.specs.Summaries.{wrongOf, wrongs}
 use Rattle.table.specs.Thread.{nextFree}
-use Rattle.image.specs.Rebuild.{firstWrong, fitting, slotIn, valueOf, isFull, isBare, verIn, linkIn}
+use Rattle.image.specs.Rebuild.{firstWrong, fitting, slotIn, isFull, isBare, verIn, linkIn}
 
 pub by-record {ℓ} : {C : Type ℓ} (r : Record) → ((v : ℕ) → r ≡ Vacant v → C) → ((v x : ℕ) → r ≡ Occupied v x → C) → C
 by-record (Vacant v) f g = f v refl

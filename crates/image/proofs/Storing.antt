@@ -3,7 +3,7 @@ use mathlib.Core.Path.{_≡_, refl, sym, ap, _∙_}
 use mathlib.Core.Logic.{_≢_, by-cases}
 use mathlib.Core.Bool.{true, cond}
 use mathlib.Core.List.{List, [], _∷_, _++_}
-use Prim.Native.Nat.{ℕ, zero, suc, _+_, _-_, _%_, _≤_, _<_}
+use Prim.Native.Nat.{ℕ, zero, suc, _+_, _-_, _≤_, _<_}
 use native.Mathlib.Nat.{zero-add}
 use native.Mathlib.Numerals.{add-one}
 use native.Mathlib.Omega.{arith}
@@ -22,9 +22,7 @@ use Rattle.keys.specs.Keys.{pack, odd}
 use Rattle.records.specs.declared.Record.{Record}
 use Rattle.records.specs.declared.Record.the-variants.{Vacant, Occupied}
 use Rattle.records.specs.Records.{versionOf}
-use Rattle.table.specs.declared.Header.{Header}
-use Rattle.table.specs.Table.{Table, entered}
-use Rattle.table.specs.Thread.{nextFree}
+use Rattle.table.specs.Table.{Table}
 use Rattle.table.proofs.Shape.{Lengths}
 use Rattle.table.proofs.Thread.{next-yes, next-no}
 use Rattle.image.specs.Rebuild.{fitting, slotIn, valueOf, isFull, isBare, verIn, linkIn, keyIn, valIn, rebuiltTo}

@@ -1,2 +1,4 @@
 pub mod Image
 pub mod Rebuild
+pub mod Refused
+pub mod Recorded

@@ -29,7 +29,8 @@ use Rattle.table.specs.Thread.{nextFree}
 
 -- ---- the last faults, over the list of records: "then 13; then 14"
 
--- 13: whether a first record of this version and presence is wrong
+-- 13: whether a first record of this version and presence is wrong. The presence is given though it does not count: "whatever even version or
+-- value its record had"
 unfoldable pub firstWrong : ℕ → ℕ → Bool
 firstWrong version presence = eqb (version % 2) 1
 
@@ -123,8 +124,15 @@ pub record Arrays : Type 0 where
   pub keys : List ℕ
   pub values : List ℕ
 
+abbrev pub arrays : List ℕ → List ℕ → List ℕ → List ℕ → Arrays
+arrays vs ls ks xs = record { versions = vs; links = ls; keys = ks; values = xs }
+
 abbrev pub arraysOf : Table → Arrays
 arraysOf t = record { versions = t .versions; links = t .links; keys = t .keys; values = t .values }
+
+-- the table of a header and the lists
+abbrev pub tableOf : Header → Arrays → Table
+tableOf h a = record { versions = a .versions; links = a .links; keys = a .keys; values = a .values; head = h }
 
 -- a table begins; or a refusal, and the lists stay
 abbrev pub begun : Arrays → Told Table → Begun × Arrays
@@ -134,5 +142,5 @@ begun a (refused k) = (cannot k, a)
 -- "fresh and rebuild judge only the array lengths under 1, before image faults"
 unfoldable pub rebuild : List ℕ → List ℕ → List ℕ → List ℕ → List ℕ → Begun × Arrays
 rebuild vs ls ks xs bytes =
-    begun (record { versions = vs; links = ls; keys = ks; values = xs })
+    begun (arrays vs ls ks xs)
     (cond (lengthsFit vs ls ks xs) (rebuiltFrom vs ls ks xs bytes) (refused 1))

@@ -1,8 +1,12 @@
 // Images: those of standard input, and good ones damaged at every byte. A line of standard input is an image in hexadecimal, rebuilt into a table
 // of C = 3 and written again; or a remark after `#`, which is told before what follows it.
+use answers::Answer;
 use dense::Started;
 use image_read::rebuild;
 use image_write::write_image;
+use libc::STDIN_FILENO;
+use libc::STDOUT_FILENO;
+use lines::first;
 use numbers::Written;
 use refusal::Refusal;
 use table::Header;
@@ -22,7 +26,7 @@ const NONE: u8 = 16;
 
 fn main() {
     let mut text = io::large_buffer();
-    let n = io::read_full(0, &mut text);
+    let n = io::read_full(STDIN_FILENO, &mut text);
     let mut image = [0u8; 32];
     lines(&text[..n], &mut image);
     small();
@@ -53,7 +57,7 @@ fn take(line: Line, byte: u8, image: &mut [u8]) -> Line {
         };
     }
     if line.remark {
-        say::bytes(&[byte]);
+        say(&[byte]);
         return line;
     }
     if byte == b'#' {
@@ -68,7 +72,7 @@ fn take(line: Line, byte: u8, image: &mut [u8]) -> Line {
 
 fn end(line: Line, image: &[u8]) {
     if line.remark {
-        say::line(b"");
+        say(b"\n");
         return;
     }
     let n = io::count(line.len as isize, image);
@@ -129,18 +133,18 @@ fn rebuilt(bytes: &[u8]) {
     let mut values = [93u64; 3];
     match rebuild(&mut versions, &mut links, &mut keys, &mut values, bytes) {
         Started::With(h) => {
-            say::state(h, &versions, &links, &keys, &values);
+            show(h, &versions, &links, &keys, &values);
             written(h, &versions, &links, &keys, &values);
         }
-        Started::Refused(why) => say::refused(why),
+        Started::Refused(why) => tell(Answer::refused(why)),
     }
 }
 
 fn written(h: Header, versions: &[u32], links: &[u32], keys: &[u64], values: &[u64]) {
     let mut out = [0x5au8; 12];
     match write_image(h, versions, links, keys, values, &mut out) {
-        Written::End(_) => say::hexes(&out),
-        Written::Refused(why) => say::refused(why),
+        Written::End(_) => show_image(&out),
+        Written::Refused(why) => tell(Answer::refused(why)),
     }
 }
 
@@ -151,11 +155,11 @@ const HELD: u32 = 0x5a5a_5a5a;
 
 fn small() {
     let mut image = [0x03u8, 0x00, 0x00, 0x01, 0x01, 0x07, 0x01, 0x01, 0xac, 0x02];
-    say::line(b"03 00 00 01 01 07 01 01 ac 02, cut before each byte");
+    say(b"03 00 00 01 01 07 01 01 ac 02, cut before each byte\n");
     cut(&image);
-    say::line(b"each bit of each byte flipped, the lowest bit first");
+    say(b"each bit of each byte flipped, the lowest bit first\n");
     flipped(&mut image);
-    say::line(b"one byte more: 00, 01, 7f, 80, ff");
+    say(b"one byte more: 00, 01, 7f, 80, ff\n");
     let mut longer = [
         0x03u8,
         0x00,
@@ -202,9 +206,9 @@ fn wide() {
         0x04,
         0x00,
     ];
-    say::line(b"a version of five bytes and a value of ten, cut before each byte");
+    say(b"a version of five bytes and a value of ten, cut before each byte\n");
     cut(&image);
-    say::line(b"each bit of each byte flipped, the lowest bit first");
+    say(b"each bit of each byte flipped, the lowest bit first\n");
     flipped(&mut image);
 }
 
@@ -218,7 +222,7 @@ fn cut(image: &[u8]) {
         judged(&image[..n]);
         end += 1;
     }
-    say::bytes(b"\n");
+    say(b"\n");
 }
 
 fn flipped(image: &mut [u8]) {
@@ -241,7 +245,7 @@ fn flips(image: &mut [u8], i: usize) {
         bit = bit << 1;
         turns -= 1;
     }
-    say::bytes(b"\n");
+    say(b"\n");
 }
 
 fn flip(image: &mut [u8], i: usize, bit: u8) {
@@ -256,7 +260,7 @@ fn lengthened(image: &mut [u8], last: usize) {
     ended(image, last, 0x7f);
     ended(image, last, 0x80);
     ended(image, last, 0xff);
-    say::bytes(b"\n");
+    say(b"\n");
 }
 
 fn ended(image: &mut [u8], last: usize, byte: u8) {
@@ -271,25 +275,24 @@ fn judged(bytes: &[u8]) {
     let mut keys = [HELD as u64; 4];
     let mut values = [HELD as u64; 4];
     match rebuild(&mut versions, &mut links, &mut keys, &mut values, bytes) {
-        Started::With(_) => say::bytes(b" ok"),
+        Started::With(_) => say(b" ok"),
         Started::Refused(why) => refused(why, &versions, &links, &keys, &values),
     }
 }
 
 fn refused(why: Refusal, versions: &[u32], links: &[u32], keys: &[u64], values: &[u64]) {
-    say::bytes(b" ");
-    say::number(why.number() as u64);
+    tell_number(why);
     if !held(versions) {
-        say::bytes(b" versions touched");
+        say(b" versions touched");
     }
     if !held(links) {
-        say::bytes(b" links touched");
+        say(b" links touched");
     }
     if !held_wide(keys) {
-        say::bytes(b" keys touched");
+        say(b" keys touched");
     }
     if !held_wide(values) {
-        say::bytes(b" values touched");
+        say(b" values touched");
     }
 }
 
@@ -313,4 +316,35 @@ fn held_wide(list: &[u64]) -> bool {
         i += 1;
     }
     true
+}
+
+// ---- what the program prints
+
+fn say(text: &[u8]) {
+    io::write_all(STDOUT_FILENO, text);
+}
+
+fn tell(answer: Answer) {
+    let mut text = [0u8; 80];
+    let end = answer_lines::line(answer, 0, &mut text);
+    say(first(&text, end));
+}
+
+// The number of a refusal, among others on one line.
+fn tell_number(why: Refusal) {
+    let mut text = [0u8; 8];
+    let end = lines::labelled(b" ", why.number() as u64, 0, &mut text);
+    say(first(&text, end));
+}
+
+fn show(h: Header, versions: &[u32], links: &[u32], keys: &[u64], values: &[u64]) {
+    let mut text = [0u8; 400];
+    let end = state_lines::state(h, versions, links, keys, values, 0, &mut text);
+    say(first(&text, end));
+}
+
+fn show_image(image: &[u8]) {
+    let mut text = [0u8; 80];
+    let end = lines::hexes(image, 0, &mut text);
+    say(first(&text, end));
 }

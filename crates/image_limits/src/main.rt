@@ -1,35 +1,51 @@
 // Rebuilds into the smallest and the largest table, and into arrays that are too long. The remarks of standard input say what follows.
+use answers::Answer;
+use answers::COUNTS;
 use dense::LIMIT;
+use dense::Started;
 use image_judge::Counts;
 use image_judge::judge_image;
 use image_read::rebuild;
+use libc::STDIN_FILENO;
+use libc::STDOUT_FILENO;
+use lines::first;
+use lines::line_at;
+use lines::line_end;
 
 fn main() {
+    let mut buffer = io::buffer();
+    let n = io::read_full(STDIN_FILENO, &mut buffer);
+    let text = &buffer[..n];
+    let a = remark(text, 0);
     none();
+    let b = remark(text, a);
     most();
+    remark(text, b);
     beyond();
 }
 
+fn begun(answer: Started) {
+    tell(answers::started(answer));
+}
+
 fn none() {
-    say::remark();
     let mut versions = [9u32];
     let mut links = [9u32];
     let mut keys = [0u64; 0];
     let mut values = [0u64; 0];
-    say::started(rebuild(
+    begun(rebuild(
         &mut versions,
         &mut links,
         &mut keys,
         &mut values,
         &[0x01, 0x00, 0x00],
     ));
-    say::started(rebuild(&mut versions, &mut links, &mut keys, &mut values, &[0x01]));
-    say::started(rebuild(&mut versions, &mut links, &mut keys, &mut values, &[0x02]));
+    begun(rebuild(&mut versions, &mut links, &mut keys, &mut values, &[0x01]));
+    begun(rebuild(&mut versions, &mut links, &mut keys, &mut values, &[0x02]));
 }
 
 // An image of 4,097 vacant slots: its count takes two bytes, and each record two zeros.
 fn most() {
-    say::remark();
     let mut versions = [9u32; LIMIT + 1];
     let mut links = [9u32; LIMIT + 1];
     let mut keys = [0u64; LIMIT];
@@ -37,15 +53,15 @@ fn most() {
     let mut bytes = [0u8; 2 * LIMIT + 4];
     bytes[0] = 0x81;
     bytes[1] = 0x20;
-    say::started(rebuild(&mut versions, &mut links, &mut keys, &mut values, &bytes));
-    say::started(rebuild(
+    begun(rebuild(&mut versions, &mut links, &mut keys, &mut values, &bytes));
+    begun(rebuild(
         &mut versions,
         &mut links,
         &mut keys,
         &mut values,
         &[0x82, 0x20],
     ));
-    say::started(rebuild(
+    begun(rebuild(
         &mut versions,
         &mut links,
         &mut keys,
@@ -57,26 +73,39 @@ fn most() {
 
 fn counted(bytes: &[u8]) {
     match judge_image(bytes, LIMIT + 1) {
-        Counts::Slots { count, live } => say::pair(count as u64, live as u64),
-        Counts::Refused(why) => say::refused(why),
+        Counts::Slots { count, live } => tell(Answer::new(COUNTS, count as u64, live as u64, 0)),
+        Counts::Refused(why) => tell(Answer::refused(why)),
     }
 }
 
 fn beyond() {
-    say::remark();
     let mut versions = [9u32; LIMIT + 2];
     let mut links = [9u32; LIMIT + 2];
     let mut keys = [0u64; LIMIT + 1];
     let mut values = [0u64; LIMIT + 1];
     let none = [0u8; 0];
-    say::started(rebuild(
+    begun(rebuild(
         &mut versions,
         &mut links,
         &mut keys,
         &mut values,
         &[0x01, 0x00, 0x00],
     ));
-    say::started(rebuild(&mut versions, &mut links, &mut keys, &mut values, &none));
+    begun(rebuild(&mut versions, &mut links, &mut keys, &mut values, &none));
     let mut few = [0u64; 1];
-    say::started(rebuild(&mut versions, &mut links, &mut keys, &mut few, &none));
+    begun(rebuild(&mut versions, &mut links, &mut keys, &mut few, &none));
+}
+
+// ---- what the program prints
+
+// Says the line of a text that begins at a place, and hands back where the next one begins.
+fn remark(text: &[u8], at: usize) -> usize {
+    io::write_all(STDOUT_FILENO, line_at(text, at));
+    line_end(text, at)
+}
+
+fn tell(answer: Answer) {
+    let mut text = [0u8; 80];
+    let end = answer_lines::line(answer, 0, &mut text);
+    io::write_all(STDOUT_FILENO, first(&text, end));
 }

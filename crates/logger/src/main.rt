@@ -1,6 +1,7 @@
 // A first example: the logger of one day. It opens a spell when the water under a contactor runs acid, reads it, writes a newer reading into it,
 // closes another one, shows that a closed spell's key opens nothing, and takes the day's image to a second table, where the open spell still answers
 // to its key. A value is a contactor's number and a reading: contactor times 1,000 plus the pH times 100.
+use answers::Answer;
 use dense::Found;
 use dense::Issued;
 use dense::Started;
@@ -11,6 +12,8 @@ use dense_enter::put;
 use dense_leave::remove;
 use image_read::rebuild;
 use image_write::write_image;
+use libc::STDOUT_FILENO;
+use lines::first;
 use numbers::Written;
 use table::Header;
 
@@ -61,27 +64,27 @@ fn begun(answer: Started) -> Header {
     match answer {
         Started::With(h) => h,
         Started::Refused(why) => {
-            say::refused(why);
+            tell(Answer::refused(why));
             Header { n: 0, s: 0, f: 0 }
         }
     }
 }
 
 fn found(answer: Found) {
-    say::bytes(b"reading: ");
-    say::found(answer);
+    say(b"reading: ");
+    tell(answers::value(answer));
 }
 
 // The number of the key of a spell just opened. With a refusal there is none, and the null key stands for it: it is never live.
 fn opened(answer: Issued) -> u64 {
     match answer {
         Issued::Key(k) => {
-            say::bytes(b"opened ");
-            say::key_line(k);
+            say(b"opened ");
+            tell(answers::issued(answer));
             k
         }
         Issued::Refused(why) => {
-            say::refused(why);
+            tell(Answer::refused(why));
             0x1_ffff_ffff
         }
     }
@@ -91,30 +94,41 @@ fn opened(answer: Issued) -> u64 {
 fn evening(h: Header, versions: &[u32], links: &[u32], keys: &[u64], values: &[u64], spell: u64) {
     let mut out = [0u8; 64];
     match write_image(h, versions, links, keys, values, &mut out) {
-        Written::End(end) => next_day(&out, end, spell),
-        Written::Refused(why) => say::refused(why),
+        Written::End(end) => next_day(first(&out, end), spell),
+        Written::Refused(why) => tell(Answer::refused(why)),
     }
 }
 
 // Reads the image back into a table of its own: the spell that is still open answers to its key.
-fn next_day(image: &[u8], end: usize, spell: u64) {
-    say::bytes(b"the day's image:");
-    say::first_hexes(image, end);
-    let n = say::within(image, end);
+fn next_day(image: &[u8], spell: u64) {
+    show(image);
     let mut versions = [0u32; 9];
     let mut links = [0u32; 9];
     let mut keys = [0u64; 8];
     let mut values = [0u64; 8];
-    match rebuild(
-        &mut versions,
-        &mut links,
-        &mut keys,
-        &mut values,
-        &image[..n],
-    ) {
+    match rebuild(&mut versions, &mut links, &mut keys, &mut values, image) {
         Started::With(h) => {
             found(lookup(h, &versions, &links, &keys, &values, spell));
         }
-        Started::Refused(why) => say::refused(why),
+        Started::Refused(why) => tell(Answer::refused(why)),
     }
+}
+
+// ---- what the program prints
+
+fn say(text: &[u8]) {
+    io::write_all(STDOUT_FILENO, text);
+}
+
+fn tell(answer: Answer) {
+    let mut text = [0u8; 80];
+    let end = answer_lines::line(answer, 0, &mut text);
+    say(first(&text, end));
+}
+
+fn show(image: &[u8]) {
+    say(b"the day's image:");
+    let mut text = [0u8; 200];
+    let end = lines::hexes(image, 0, &mut text);
+    say(first(&text, end));
 }

@@ -1,7 +1,8 @@
 -- Theorem G for the secondary map, for any arrays: a call is refused with the number of the first of its tests that fails, and then leaves
 -- everything as it was; where all its tests hold it does what the rules say. Each call is one equation over its list of tests. Assumes nothing.
 use mathlib.Core.Path.{_≡_, refl, ap, _∙_}
-use mathlib.Core.Logic.{_≢_}
+use mathlib.Core.Logic.{_≢_, _↔_}
+use mathlib.Core.Bool.{Bool, true, false}
 use mathlib.Core.List.{List, [], _∷_, _++_}
 use mathlib.Core.Option.{Option, none, some}
 use Prim.Native.Nat.{ℕ, _-_}
@@ -11,18 +12,36 @@ use lib.ListN.{length}
 use borrow.Author.Tests.{eqb-true, ne-eqb}
 use Rattle.lists.specs.Among.{among}
 use Rattle.lists.specs.Put.{put}
-use Rattle.lists.proofs.Tests.{split}
+use Rattle.lists.proofs.Tests.{split, either, true-false}
 use Rattle.keys.specs.Keys.{idx, version, asRead, keyOf, isNull}
 use Rattle.keys.specs.declared.KeyData.{KeyData}
 use Rattle.rules.specs.declared.Rule.{Rule}
 use Rattle.rules.specs.Rules.{keepsOf}
 use Rattle.map.specs.Map.{Map, ver, val, hasShape, isThere, older, grown, withValue, emptied}
 use Rattle.map.specs.Calls as calls
-use Rattle.map.specs.Calls.{said-value, said-done, found, slotIn, slot, lookup, settled, fate, fated, insertKey, insert, leavingFrom, leaving, remove, ahead, met, drain}
+use Rattle.map.specs.Calls.{Said, said-value, said-count, said-truth, said-ignored, said-replaced, said-kept, said-stored, said-element, said-done, refused, Out, found, slotIn, slot, lookup, settled, fate, fated, insertKey, insert, leavingFrom, leaving, remove, ahead, met, drain}
 use Rattle.map.specs.Whole.{isWhole}
 use Rattle.map.specs.Sweeps.{asked, retaining, retain, clearing, clear, Slots, slots, misses, slotted, slotsOf, given, disjoint}
-use Rattle.map.specs.Refused.{Tests, first, ruled, slotTests, removeTests, insertTests, drainTests, sweepTests, keyTests, disjointTests, canEnter, enters, inserts, drains, indexesOf, beside}
+use Rattle.map.specs.Refused.{Tests, first, ruled, slotTests, removeTests, insertTests, drainTests, sweepTests, keyTests, disjointTests, canEnter, enters, inserts, drains, indexes, beside}
 use Rattle.map.proofs.Ways.{version-some}
+
+-- ---- where a refusal is given
+
+abbrev isRefused : Said → Bool
+isRefused (said-value x) = false
+isRefused (said-count n) = false
+isRefused (said-truth b) = false
+isRefused said-ignored = false
+isRefused (said-replaced x) = false
+isRefused said-kept = false
+isRefused said-stored = false
+isRefused (said-element k x p) = false
+isRefused said-done = false
+isRefused (refused r) = true
+
+refuses : {A : Type 0} (u : A) (f : Option ℕ) (o : Said × A) (r : ℕ) → isRefused (o .0) ≡ false → (ruled u f o .0 ≡ refused r) ↔ (f ≡ some r)
+refuses u none o r h = (λ e. true-false (ap isRefused e) h, λ e. let z : _≡_ {A = ℕ} 0 1 = cc in absurd (omega arith))
+refuses u (some q) o r h = (λ e. cc, λ e. cc)
 
 -- ---- one key
 
@@ -74,6 +93,17 @@ pub insert-ruled : (m : Map) (k x : ℕ) → insert m k x ≡ ruled m (first (in
 unfolding insert
 insert-ruled m k x = insert-key-ruled m (keyOf k) x (version-some k)
 
+-- so 1, 9, 8 and 5 are each given exactly where theirs is the first test that fails
+pub insert-refused : (m : Map) (k x r : ℕ) → (insert m k x .0 ≡ refused r) ↔ (first (insertTests m (keyOf k)) ≡ some r)
+insert-refused m k x r = rw (insert-ruled m k x) (refuses m (first (insertTests m (keyOf k))) (inserts m (keyOf k) x) r accepted)
+  where
+    accepted : isRefused (inserts m (keyOf k) x .0) ≡ false
+    accepted =
+        either (λ (o : Out). isRefused (o .0) ≡ false) (isNull (keyOf k)) _ _ refl
+        (either (λ (o : Out). isRefused (o .0) ≡ false) (eqb (ver (grown m (idx k)) (idx k)) (version k)) _ _ refl
+        (either (λ (o : Out). isRefused (o .0) ≡ false) (eqb (ver (grown m (idx k)) (idx k)) 0) _ _ refl
+        (either (λ (o : Out). isRefused (o .0) ≡ false) (older (version k) (ver (grown m (idx k)) (idx k))) _ _ refl refl)))
+
 -- ---- drain step, retain and clear
 
 module _ (m : Map) where
@@ -105,14 +135,14 @@ slotted-seated : (i : ℕ) (f : Option ℕ) (is : List ℕ) → slotted (found i
 slotted-seated i none is = refl
 slotted-seated i (some r) is = refl
 
-slots-seated : (m : Map) (earlier ks : List ℕ) → slotsOf m earlier ks ≡ seated (first (keyTests m earlier ks)) (indexesOf ks)
-unfolding slotsOf slotIn
+slots-seated : (m : Map) (earlier ks : List ℕ) → slotsOf m earlier ks ≡ seated (first (keyTests m earlier ks)) (indexes ks)
+unfolding slotsOf slotIn indexes
 slots-seated m earlier [] = refl
 slots-seated m earlier (k ∷ ks) =
     split (among (asRead k) earlier)
     (λ a. rw a)
     (λ a. rw a (split (isThere m (idx k) (version k))
-    (λ b. rw b (ap (slotted (found (idx k))) (slots-seated m (asRead k ∷ earlier) ks) ∙ slotted-seated (idx k) (first (keyTests m (asRead k ∷ earlier) ks)) (indexesOf ks)))
+    (λ b. rw b (ap (slotted (found (idx k))) (slots-seated m (asRead k ∷ earlier) ks) ∙ slotted-seated (idx k) (first (keyTests m (asRead k ∷ earlier) ks)) (indexes ks)))
     (λ b. rw b)))
 
 abbrev before : Option ℕ → Option ℕ → Option ℕ
@@ -128,9 +158,9 @@ given-ruled : (m : Map) (f : Option ℕ) (is ks out : List ℕ)
 given-ruled m none is ks out = split (leb (length ks) (length out)) (λ b. rw b) (λ b. rw b)
 given-ruled m (some r) is ks out = refl
 
-pub disjoint-ruled : (m : Map) (ks out : List ℕ) → disjoint m ks out ≡ beside m (ruled out (first (disjointTests m ks out)) (said-done, put out 0 (indexesOf ks)))
+pub disjoint-ruled : (m : Map) (ks out : List ℕ) → disjoint m ks out ≡ beside m (ruled out (first (disjointTests m ks out)) (said-done, put out 0 (indexes ks)))
 unfolding disjoint
 disjoint-ruled m ks out =
     split (hasShape m)
-    (λ a. rw (a, slots-seated m [] ks, first-append (keyTests m [] ks) ((leb (length ks) (length out), 6) ∷ [])) (given-ruled m (first (keyTests m [] ks)) (indexesOf ks) ks out))
+    (λ a. rw (a, slots-seated m [] ks, first-append (keyTests m [] ks) ((leb (length ks) (length out), 6) ∷ [])) (given-ruled m (first (keyTests m [] ks)) (indexes ks) ks out))
     (λ a. rw a)

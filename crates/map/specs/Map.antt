@@ -57,8 +57,8 @@ hasShape m = lengthsFit (m .versions) (m .values) && (leb 1 (m .head .s) && leb 
 unfoldable pub isThere : Map → ℕ → ℕ → Bool
 isThere m i v = ltb i (m .head .s) && eqb (ver m i) v
 
--- the refusal of a key that is not there. It has the map and the key, though it is 2 whatever they are: why a key is not there is one
--- definition, which may come to tell more
+-- the refusal of a key that is not there is 2. As the table's `dead`, it uses neither the map nor the key that it is given, and what cites it rests
+-- on no number
 unfoldable pub absent : Map → ℕ → ℕ → ℕ
 absent m i v = 2
 

@@ -88,9 +88,9 @@ abbrev pub drains : Map → ℕ → Out
 drains m p = cond (ltb (ahead m p) (m .head .s)) (element m (ahead m p), emptied m (ahead m p)) (said-done, m)
 
 -- "disjoint gives slot indexes"
-abbrev pub indexesOf : List ℕ → List ℕ
-indexesOf [] = []
-indexesOf (k ∷ ks) = idx k ∷ indexesOf ks
+unfoldable pub indexes : List ℕ → List ℕ
+indexes [] = []
+indexes (k ∷ ks) = idx k ∷ indexes ks
 
 -- an answer and the output, with the map, which disjoint leaves alone
 abbrev pub beside : Map → Said × List ℕ → Out × List ℕ

@@ -1,7 +1,7 @@
 -- The refusals that reading an image's records can give, and no others. Assumes nothing.
 use Prim.Native.Nat.{ℕ, zero, suc}
 use mathlib.Core.Path.{_≡_, sym}
-use mathlib.Core.Logic.{_⊎_, ⊎-elim}
+use mathlib.Core.Logic.{⊎-elim}
 use mathlib.Core.List.{List}
 use lib.Dec.{ltb, eqb}
 use lib.ListN.{length}
@@ -10,16 +10,7 @@ use Rattle.numbers.specs.Told.{Told, refused}
 use Rattle.numbers.specs.Numbers.{numberAt}
 use Rattle.numbers.proofs.Told.{never, refused-same, by-refusal}
 use Rattle.numbers.proofs.Bounds.{number-refusals}
-use Rattle.records.specs.Records.{recordAt, recordsFrom, countOf, listOf, recordsOf}
-
--- "image ends before a number is whole", "number not in shortest form, or too large", "image slot count above C+1",
--- "bytes after the last slot", "presence number neither 0 nor 1"
-pub data Fault : ℕ → Type 0 where
-  ends : Fault 10
-  form : Fault 11
-  too-many : Fault 12
-  trailing : Fault 15
-  presence : Fault 16
+use Rattle.records.specs.Records.{recordAt, recordsFrom, countOf, listOf, recordsOf, Fault, ends, form, too-many, trailing, presence}
 
 number-fault : (bits : ℕ) (s : List ℕ) (at k : ℕ) → numberAt bits s at ≡ refused k → Fault k
 number-fault bits s at k e = ⊎-elim (λ h. rw h ends) (λ h. rw h form) (number-refusals bits s at k e)

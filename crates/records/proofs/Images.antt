@@ -16,7 +16,7 @@ use Rattle.numbers.proofs.Reading.{decode-at, encode-decode}
 use Rattle.numbers.proofs.Bounds.{number-fits}
 use Rattle.records.specs.declared.Record.{Record}
 use Rattle.records.specs.declared.Record.the-variants.{Vacant, Occupied}
-use Rattle.records.specs.Records.{recordAt, recordsFrom, countOf, listOf, recordsOf, recordBytes, listBytes, bytesOf, Fit, FitAll}
+use Rattle.records.specs.Records.{recordAt, recordsFrom, countOf, listOf, recordsOf, recordBytes, listBytes, bytesOf, Fit, FitAll, Accepted}
 use Rattle.records.proofs.Records.{vacant, occupied, counted, count-is}
 
 -- ---- a record
@@ -156,13 +156,6 @@ by-list k s at l e go =
     by-answer (recordsFrom k s at) _ l e (λ y f g.
     split (ltb (y .1) (length s)) (λ t. never (rw t at g)) (λ t.
     go (y .1) (f ∙ ap (λ (m : List Record). tells (m, y .1)) (told (rw t at g))) (ltb-false (y .1) (length s) t)))
-
--- an accepted image is the bytes of its records, which are not too many and of machine numbers
-pub record Accepted (s : List ℕ) (most : ℕ) (l : List Record) : Type 0 where
-  pub bytes-of : s ≡ bytesOf l
-  pub few : length l ≤ most
-  pub small : length l < 2 ^ 32
-  pub fit : FitAll l
 
 whole : (s : List ℕ) (most c n : ℕ) (l : List Record) (m : ℕ) → Bytes s → countOf s most ≡ tells (c, n) → recordsFrom c s n ≡ tells (l, m) → length l ≡ c → length s ≤ m → Accepted s most l
 unfolding bytesOf

@@ -4,7 +4,8 @@
 --     00 00           slot 0: version 0, presence 0
 --     02 00           slot 1: version 2, presence 0
 --     01 01 AC 02     slot 2: version 1, presence 1, value 300
-use Prim.Native.Nat.{ℕ, zero, suc, _^_, _<_}
+use mathlib.Core.Path.{_≡_}
+use Prim.Native.Nat.{ℕ, zero, suc, _^_, _≤_, _<_}
 use mathlib.Core.Bool.{cond}
 use mathlib.Core.List.{List, [], _∷_, _++_}
 use lib.Dec.{ltb, eqb}
@@ -86,3 +87,21 @@ Fit (Occupied v x) = (v < 2 ^ 32) × (x < 2 ^ 64)
 unfoldable pub FitAll : List Record → Type 0
 FitAll [] = Unit {0}
 FitAll (r ∷ l) = Fit r × FitAll l
+
+-- ---- what the theorems say of an image
+
+-- the refusals that reading its records can give: "image ends before a number is whole", "number not in shortest form, or too large", "image slot count above C+1",
+-- "bytes after the last slot", "presence number neither 0 nor 1"
+pub data Fault : ℕ → Type 0 where
+  ends : Fault 10
+  form : Fault 11
+  too-many : Fault 12
+  trailing : Fault 15
+  presence : Fault 16
+
+-- an accepted image is the bytes of its records, which are not too many and of machine numbers
+pub record Accepted (s : List ℕ) (most : ℕ) (l : List Record) : Type 0 where
+  pub bytes-of : s ≡ bytesOf l
+  pub few : length l ≤ most
+  pub small : length l < 2 ^ 32
+  pub fit : FitAll l

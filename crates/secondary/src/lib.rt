@@ -114,7 +114,7 @@ pub fn contains_key(h: MapHeader, versions: &[u32], values: &[u64], k: u64) -> T
     Truth::Is(is_there(h, versions, values, KeyData::from_ffi(k)))
 }
 
-// The refusal of a key that is not there.
+// The refusal of a key that is not there. It uses nothing that it is given, as its definition says.
 fn absent(_h: MapHeader, _versions: &[u32], _values: &[u64], _key: KeyData) -> Refusal
     ensures { λ r. ⌜ numberOf r ≡ absent (before «_versions» «_values» «_h») («_key» .idx) («_key» .version) ⌝ }
 {

@@ -13,7 +13,8 @@ use Rattle.map.specs.Calls.{said-done, refused}
 use Rattle.map.specs.Sweeps.{Slots, slotsOf, given, disjoint}
 use Rattle.secondary_disjoint.specs.declared.Marked.{Marked}
 use Rattle.secondary_disjoint.specs.declared.Marked.the-variants.{All, Stopped}
-use Rattle.secondary_disjoint.specs.Marks.{indexes, unmarked, marksOf, Marking}
+use Rattle.map.specs.Refused.{indexes}
+use Rattle.secondary_disjoint.specs.Marks.{unmarked, marksOf, Marking}
 use Rattle.secondary_disjoint.proofs.Runs.{marked}
 
 -- what an arm of the match on marking's answer tells

@@ -24,7 +24,8 @@ use Rattle.map.proofs.Shaped.{shaped, shape-true}
 use Rattle.map.proofs.Cases.{there, there-true, slot-absent, slot-there}
 use Rattle.map.proofs.Stands.{Stands}
 use Rattle.secondary_disjoint.specs.declared.Marked.the-variants.{All, Stopped}
-use Rattle.secondary_disjoint.specs.Marks.{indexes, unmarked, Marking}
+use Rattle.map.specs.Refused.{indexes}
+use Rattle.secondary_disjoint.specs.Marks.{unmarked, Marking}
 use Rattle.secondary_disjoint.proofs.Marks.{Spot, spot-free, spot-there, spot-repeated, spot-marked}
 
 -- ---- slots before slots

@@ -1,19 +1,17 @@
 -- Disjoint's marks, which are undone before it answers: no rule speaks of them. Assumes nothing.
 use mathlib.Core.Path.{_≡_}
-use mathlib.Core.List.{List, [], _∷_}
+use mathlib.Core.List.{List, []}
 use Prim.Native.Nat.{ℕ, zero, suc, _≤_, _<_}
 use lib.ListN.{length, getD, set}
 use Rattle.refusal.specs.Refusals.{numberOf}
 use Rattle.keys.specs.Keys.{idx, version}
 use Rattle.map.specs.Map.{Map}
 use Rattle.map.specs.Sweeps.{Slots, slots, misses, slotsOf}
+use Rattle.map.specs.Refused.{indexes}
 use Rattle.secondary_disjoint.specs.declared.Marked.{Marked}
 use Rattle.secondary_disjoint.specs.declared.Marked.the-variants as Marked·
 
--- the slots of keys that are all there
-unfoldable pub indexes : List ℕ → List ℕ
-indexes [] = []
-indexes (k ∷ ks) = idx k ∷ indexes ks
+-- ---- for private functions
 
 -- the versions with the slots of the first n keys given back the keys' versions, the last key first
 unfoldable pub unmarked : List ℕ → List ℕ → ℕ → List ℕ

@@ -18,6 +18,8 @@ sweptOf (Swept·.Refused r) = refused (numberOf r)
 abbrev pub sweepOf : Sweep → Lent → Lent → Out
 sweepOf r vs xs = (sweptOf (r .answer), after vs xs (r .header))
 
--- the map that a private function is handed
+-- ---- for private functions
+
+-- the map that one is handed
 abbrev pub handed : RefT (List ℕ) → RefT (List ℕ) → MapHeader → Map
 handed vs xs h = record { versions = vs .now; values = xs .now; head = h }

@@ -1,10 +1,22 @@
 // The spells of the rules, through the real code. The remarks of standard input are the rules' own words, one before each spell.
+use answers::Answer;
+use answers::KEY;
 use dense::LIMIT;
 use dense::Started;
 use dense::fresh;
 use image_read::rebuild;
 use image_write::write_image;
 use keys::KeyData;
+use libc::STDIN_FILENO;
+use libc::STDOUT_FILENO;
+use lines::first;
+use lines::line_at;
+use lines::line_end;
+use made::Made;
+use made::detach;
+use made::insert;
+use made::reattach;
+use made::remove;
 use numbers::Written;
 use table::Header;
 
@@ -12,57 +24,79 @@ use table::Header;
 const FIRST: u64 = 0x1_0000_0001;
 
 fn main() {
-    two();
-    say::remark();
-    say::key_line(8589934597);
+    let mut buffer = io::buffer();
+    let n = io::read_full(STDIN_FILENO, &mut buffer);
+    spells(&buffer[..n]);
+}
+
+fn spells(text: &[u8]) {
+    let a = two(text);
+    let b = remark(text, a);
+    tell(Answer::of(KEY, 8589934597));
+    let c = remark(text, b);
     detached();
+    let d = remark(text, c);
     wraps();
+    let e = remark(text, d);
     threads();
-    empties();
-    faults();
+    let f = remark(text, e);
+    rebuilt(&[0x01, 0x02, 0x01, 0x05]);
+    let g = remark(text, f);
+    rebuilt(&[0x00]);
+    let h = remark(text, g);
+    rebuilt(&[0x01, 0x80, 0x00, 0x00]);
+    remark(text, h);
     limits();
 }
 
+// The image of a table, as a line.
 fn imaged(h: Header, versions: &[u32], links: &[u32], keys: &[u64], values: &[u64]) {
-    let mut out = [0u8; 16];
-    match write_image(h, versions, links, keys, values, &mut out) {
-        Written::End(end) => say::first_hexes(&out, end),
-        Written::Refused(why) => say::refused(why),
+    let mut image = [0u8; 16];
+    match write_image(h, versions, links, keys, values, &mut image) {
+        Written::End(end) => show_hexes(first(&image, end)),
+        Written::Refused(why) => tell(Answer::refused(why)),
     }
 }
 
-fn two() {
-    say::remark();
+fn two(text: &[u8]) -> usize {
+    let at = remark(text, 0);
     let h = Header { n: 0, s: 1, f: 1 };
     let mut versions = [0u32; 3];
     let mut links = [0u32; 3];
     let mut keys = [0u64; 2];
     let mut values = [0u64; 2];
-    say::started(fresh(&mut versions, &mut links, &keys, &values));
+    begun(fresh(&mut versions, &mut links, &keys, &values));
     imaged(h, &versions, &links, &keys, &values);
-    say::remark();
-    let a = told::insert(h, &mut versions, &mut links, &mut keys, &mut values, 7);
-    let b = told::insert(a, &mut versions, &mut links, &mut keys, &mut values, 300);
-    imaged(b, &versions, &links, &keys, &values);
-    say::remark();
-    let c = told::remove(b, &mut versions, &mut links, &mut keys, &mut values, FIRST);
-    imaged(c, &versions, &links, &keys, &values);
-    say::remark();
-    told::insert(c, &mut versions, &mut links, &mut keys, &mut values, 9);
-    say::numbers(&keys);
+    let b = remark(text, at);
+    let one = told(insert(h, &mut versions, &mut links, &mut keys, &mut values, 7));
+    let both = told(insert(one, &mut versions, &mut links, &mut keys, &mut values, 300));
+    imaged(both, &versions, &links, &keys, &values);
+    let c = remark(text, b);
+    let left = told(remove(
+        both,
+        &mut versions,
+        &mut links,
+        &mut keys,
+        &mut values,
+        FIRST,
+    ));
+    imaged(left, &versions, &links, &keys, &values);
+    let d = remark(text, c);
+    told(insert(left, &mut versions, &mut links, &mut keys, &mut values, 9));
+    show_numbers(&keys);
+    d
 }
 
 fn detached() {
-    say::remark();
     let h = Header { n: 0, s: 1, f: 1 };
     let mut versions = [0u32; 2];
     let mut links = [0u32; 2];
     let mut keys = [0u64; 1];
     let mut values = [0u64; 1];
-    let a = told::insert(h, &mut versions, &mut links, &mut keys, &mut values, 7);
-    let b = told::detach(a, &mut versions, &mut links, &mut keys, &mut values, FIRST);
-    let c = told::insert(b, &mut versions, &mut links, &mut keys, &mut values, 8);
-    told::reattach(
+    let a = told(insert(h, &mut versions, &mut links, &mut keys, &mut values, 7));
+    let b = told(detach(a, &mut versions, &mut links, &mut keys, &mut values, FIRST));
+    let c = told(insert(b, &mut versions, &mut links, &mut keys, &mut values, 8));
+    told(reattach(
         c,
         &mut versions,
         &mut links,
@@ -70,24 +104,22 @@ fn detached() {
         &mut values,
         FIRST,
         9,
-    );
+    ));
 }
 
 fn wraps() {
-    say::remark();
     let h = Header { n: 1, s: 2, f: 2 };
     let last = KeyData::new(1, 4294967295).as_ffi();
     let mut versions = [0u32, 4294967295];
     let mut links = [0u32, 0];
     let mut keys = [last];
     let mut values = [5u64];
-    let a = told::remove(h, &mut versions, &mut links, &mut keys, &mut values, last);
-    say::words(&versions);
-    told::insert(a, &mut versions, &mut links, &mut keys, &mut values, 6);
+    let a = told(remove(h, &mut versions, &mut links, &mut keys, &mut values, last));
+    show_words(&versions);
+    told(insert(a, &mut versions, &mut links, &mut keys, &mut values, 6));
 }
 
 fn threads() {
-    say::remark();
     let mut versions = [9u32; 3];
     let mut links = [9u32; 3];
     let mut keys = [9u64; 2];
@@ -95,10 +127,10 @@ fn threads() {
     let bytes = [0x03u8, 0x00, 0x00, 0x02, 0x00, 0x04, 0x00];
     match rebuild(&mut versions, &mut links, &mut keys, &mut values, &bytes) {
         Started::With(h) => {
-            say::header(h);
-            told::insert(h, &mut versions, &mut links, &mut keys, &mut values, 7);
+            tell(Answer::header(h));
+            told(insert(h, &mut versions, &mut links, &mut keys, &mut values, 7));
         }
-        Started::Refused(why) => say::refused(why),
+        Started::Refused(why) => tell(Answer::refused(why)),
     }
 }
 
@@ -107,39 +139,66 @@ fn rebuilt(bytes: &[u8]) {
     let mut links = [9u32; 3];
     let mut keys = [9u64; 2];
     let mut values = [9u64; 2];
-    say::started(rebuild(&mut versions, &mut links, &mut keys, &mut values, bytes));
-}
-
-fn empties() {
-    say::remark();
-    let bytes = [0x01u8, 0x02, 0x01, 0x05];
-    rebuilt(&bytes);
-}
-
-fn faults() {
-    say::remark();
-    let none = [0x00u8];
-    rebuilt(&none);
-    say::remark();
-    let long = [0x01u8, 0x80, 0x00, 0x00];
-    rebuilt(&long);
+    begun(rebuild(&mut versions, &mut links, &mut keys, &mut values, bytes));
 }
 
 fn limits() {
-    say::remark();
     let mut versions = [0u32; LIMIT + 1];
     let mut links = [0u32; LIMIT + 1];
     let keys = [0u64; LIMIT];
     let values = [0u64; LIMIT];
-    say::started(fresh(&mut versions, &mut links, &keys, &values));
+    begun(fresh(&mut versions, &mut links, &keys, &values));
     let mut more_versions = [0u32; LIMIT + 2];
     let mut more_links = [0u32; LIMIT + 2];
     let more_keys = [0u64; LIMIT + 1];
     let more_values = [0u64; LIMIT + 1];
-    say::started(fresh(
+    begun(fresh(
         &mut more_versions,
         &mut more_links,
         &more_keys,
         &more_values,
     ));
+}
+
+// ---- what the program prints
+
+// Says the line of a text that begins at a place, and hands back where the next one begins.
+fn remark(text: &[u8], at: usize) -> usize {
+    io::write_all(STDOUT_FILENO, line_at(text, at));
+    line_end(text, at)
+}
+
+fn tell(answer: Answer) {
+    let mut text = [0u8; 80];
+    let end = answer_lines::line(answer, 0, &mut text);
+    io::write_all(STDOUT_FILENO, first(&text, end));
+}
+
+// Tells what a call answered, and hands back the header.
+fn told(made: Made) -> Header {
+    let answer = made.answer;
+    tell(answer);
+    made.header
+}
+
+fn begun(answer: Started) {
+    tell(answers::started(answer));
+}
+
+fn show_hexes(list: &[u8]) {
+    let mut text = [0u8; 80];
+    let end = lines::hexes(list, 0, &mut text);
+    io::write_all(STDOUT_FILENO, first(&text, end));
+}
+
+fn show_words(list: &[u32]) {
+    let mut text = [0u8; 80];
+    let end = lines::words(list, 0, &mut text);
+    io::write_all(STDOUT_FILENO, first(&text, end));
+}
+
+fn show_numbers(list: &[u64]) {
+    let mut text = [0u8; 80];
+    let end = lines::numbers(list, 0, &mut text);
+    io::write_all(STDOUT_FILENO, first(&text, end));
 }

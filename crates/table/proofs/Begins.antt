@@ -14,7 +14,7 @@ use Rattle.keys.specs.Keys.{W, idx, pack, version, asRead}
 use Rattle.keys.proofs.Keys.{version-odd, idx-pack, read-pack, version-pack, read-read}
 use Rattle.table.specs.declared.Header.{Header}
 use Rattle.table.specs.Table.{Table, ver, link, key, val, isLive, last}
-use Rattle.table.specs.Calls.{said-key, refused, Out, begins, fresh, freshTable, insert}
+use Rattle.table.specs.Calls.{said-key, Out, begins, fresh, freshTable, insert}
 use Rattle.table.specs.Sound.{Sound}
 use Rattle.table.specs.Steps.{Call, step, after, history}
 use Rattle.table.specs.Reading.{Change, nothing, issued, returned, revalued, dies, parts, sieved, change, Reading, blank, changed, reading, valueIn, isIn, keysOf}
@@ -26,7 +26,7 @@ use Rattle.table.proofs.Judged.{Live, live}
 use Rattle.table.proofs.Facts.{Detached, detached-facts, facts-detached, not-detached}
 use Rattle.table.proofs.Orderly.{Orderly, orderly}
 use Rattle.table.proofs.Enter.{head-free}
-use Rattle.table.proofs.Cases.{stored-live, insert-ways, insert-taken, insert-grown, insert-full}
+use Rattle.table.proofs.Cases.{stored-live, issued-ways}
 use Rattle.table.proofs.Outcomes.{Outcome, outcome, refuses, looks, puts, takes, grows, removes, detaches, reattaches, drains, done, retains, clears}
 use Rattle.table.proofs.Keeps.{sound-fresh, sound-step}
 use Rattle.table.proofs.Follows.{find-live, find-dead, find-not, find-read, away-read}
@@ -114,20 +114,11 @@ module _ (t : Table) (a : Sound t) where
 
   pub insert-read : (x k : ℕ) → insert t x .0 ≡ said-key k → asRead k ≡ k
   insert-read x k e =
-      insert-ways t a
-      (λ h.
+      issued-ways t a x k e
+      (λ h q.
       let f = head-free t o h in
-      let p : insert t x .0 ≡ said-key (pack (t .head .f) (ver t (t .head .f) + 1)) = ap (λ (r : Out). r .0) (insert-taken t a h x) in
-      let q : k ≡ pack (t .head .f) (ver t (t .head .f) + 1) = cc in
       rw q (read-pack (t .head .f) _ (omega (arith, o .shape)) (omega (arith, f .vacant .even, a .words (t .head .f) h)) (omega (arith, f .vacant .even))))
-      (λ g c.
-      let p : insert t x .0 ≡ said-key (pack (t .head .s) 1) = ap (λ (r : Out). r .0) (insert-grown t a g x c) in
-      let q : k ≡ pack (t .head .s) 1 = cc in
-      rw q (read-pack (t .head .s) 1 (omega (arith, o .shape)) (omega arith) refl))
-      (λ g c.
-      let p : insert t x .0 ≡ refused 3 = ap (λ (r : Out). r .0) (insert-full t a g x c) in
-      let z : _≡_ {A = ℕ} 0 1 = cc in
-      absurd (omega arith))
+      (λ q. rw q (read-pack (t .head .s) 1 (omega (arith, o .shape)) (omega arith) refl))
 
 -- ---- a fresh table reads as nothing
 

@@ -14,7 +14,7 @@ use Rattle.keys.proofs.Versions.{odd-even, down-up}
 use Rattle.rules.specs.declared.Rule.{Rule}
 use Rattle.rules.specs.Rules.{keepsOf}
 use Rattle.table.specs.Table.{Table, ver, link, key, val, cap, isLive, dead, isDetached, isHeld, last, lastIdx, lastInRange, lastIsHeld, headIsFree, withValue}
-use Rattle.table.specs.Calls.{said-key, said-value, said-pair, said-done, refused, found, fails, placeIn, place, lookup, put, nextIn, next, inserted, insert, leaving, remove, detach, berthIn, berth, reattach, drain}
+use Rattle.table.specs.Calls.{Out, said-key, said-value, said-pair, said-done, refused, found, fails, placeIn, place, lookup, put, nextIn, next, inserted, insert, leaving, remove, detach, berthIn, berth, reattach, drain}
 use Rattle.table.specs.Sound.{Vacant, Home, Sound}
 use Rattle.table.specs.Sweeps.{retaining, retain, clearing, clear}
 use Rattle.table.proofs.Shape.{shape}
@@ -209,6 +209,22 @@ module _ (t : Table) (a : Sound t) where
     pub insert-full : (x : ℕ) → t .head .s ≡ cap t + 1 → insert t x ≡ (refused 3, t)
     unfolding insert
     insert-full x c = rw (next-full c)
+
+  -- the key that an insert answers: the free head's, or the first of a new slot
+  pub issued-ways : {A : Type 0} (x k : ℕ) → insert t x .0 ≡ said-key k → (t .head .f < t .head .s → k ≡ pack (t .head .f) (ver t (t .head .f) + 1) → A)
+      → (k ≡ pack (t .head .s) 1 → A) → A
+  issued-ways x k e takes grows =
+      insert-ways
+      (λ h.
+      let p : insert t x .0 ≡ said-key (pack (t .head .f) (ver t (t .head .f) + 1)) = ap (λ (r : Out). r .0) (insert-taken h x) in
+      takes h (cc))
+      (λ g c.
+      let p : insert t x .0 ≡ said-key (pack (t .head .s) 1) = ap (λ (r : Out). r .0) (insert-grown g x c) in
+      grows (cc))
+      (λ g c.
+      let p : insert t x .0 ≡ refused 3 = ap (λ (r : Out). r .0) (insert-full g x c) in
+      let z : _≡_ {A = ℕ} 0 1 = cc in
+      absurd (omega arith))
 
   -- ---- drain step, retain, clear
 

@@ -22,7 +22,7 @@ use Rattle.table.proofs.Readings.{value-mem, in-mem}
 use Rattle.table.proofs.Judged.{live}
 use Rattle.table.proofs.Orderly.{orderly}
 use Rattle.table.proofs.Enter.{head-free}
-use Rattle.table.proofs.Cases.{insert-ways, insert-taken, insert-grown, insert-full}
+use Rattle.table.proofs.Cases.{issued-ways}
 use Rattle.table.proofs.Begins.{base-live, base-detached, begins-after}
 use Rattle.table.proofs.Promises.{insert-new}
 use Rattle.table.proofs.Clock.{clock, clock-odd, clock-away, clock-free, clock-new}
@@ -78,29 +78,20 @@ turned-after t base b i hi (c ∷ cs) =
 issue-clock : (t : Table) → Sound t → (x k : ℕ) → insert t x .0 ≡ said-key k → clock t (idx k) + 1 ≡ version k
 issue-clock t a x k e =
     let o = orderly t a in
-    insert-ways t a
-    (λ h.
+    issued-ways t a x k e
+    (λ h q.
     let f = head-free t o h in
     let od : (ver t (t .head .f) + 1) % 2 ≡ 1 = omega (arith, f .vacant .even) in
     let w : ver t (t .head .f) + 1 < W = omega (arith, f .vacant .even, a .words _ h) in
-    let p : insert t x .0 ≡ said-key (pack (t .head .f) (ver t (t .head .f) + 1)) = ap (λ (r : Out). r .0) (insert-taken t a h x) in
-    let q : k ≡ pack (t .head .f) (ver t (t .head .f) + 1) = cc in
     let small : t .head .f < W = omega (arith, o .shape) in
     let i : idx k ≡ t .head .f = ap idx q ∙ idx-pack (t .head .f) (ver t (t .head .f) + 1) small in
-    let v : version k ≡ ver t (t .head .f) + 1 =
-    ap version q ∙ version-pack (t .head .f) (ver t (t .head .f) + 1) small w od in
+    let v : version k ≡ ver t (t .head .f) + 1 = ap version q ∙ version-pack (t .head .f) (ver t (t .head .f) + 1) small w od in
     ap (λ (m : ℕ). clock t m + 1) i ∙ ap (λ (m : ℕ). m + 1) (clock-free t _ h (f .vacant .even) (λ z. omega (arith, z, f, o .shape))) ∙ sym v)
-    (λ g c.
-    let p : insert t x .0 ≡ said-key (pack (t .head .s) 1) = ap (λ (r : Out). r .0) (insert-grown t a g x c) in
-    let q : k ≡ pack (t .head .s) 1 = cc in
+    (λ q.
     let small : t .head .s < W = omega (arith, o .shape) in
     let i : idx k ≡ t .head .s = ap idx q ∙ idx-pack (t .head .s) 1 small in
     let v : version k ≡ 1 = ap version q ∙ version-pack (t .head .s) 1 small (omega arith) refl in
     ap (λ (m : ℕ). clock t m + 1) i ∙ ap (λ (m : ℕ). m + 1) (clock-new t _ (omega arith)) ∙ sym v)
-    (λ g c.
-    let p : insert t x .0 ≡ refused 3 = ap (λ (r : Out). r .0) (insert-full t a g x c) in
-    let z : _≡_ {A = ℕ} 0 1 = cc in
-    absurd (omega arith))
 
 -- a known key's version is the clock's
 known-clock : (t : Table) (base : Reading) → Begins t base → (k : ℕ) → Known base k → clock t (idx k) ≡ version k

@@ -5,7 +5,7 @@ use native.Mathlib.Omega.{arith}
 use lib.ListN.{length, drop, length-set}
 use Rattle.lists.specs.Put.{put}
 use Rattle.keys.specs.declared.KeyData.{KeyData}
-use Rattle.secondary_disjoint.specs.Marks.{indexes}
+use Rattle.map.specs.Refused.{indexes}
 use Rattle.secondary_disjoint.proofs.Runs.{fill-turn, fill-end}
 use borrow.Author.Needs.{needs}
 use Rattle.secondary_disjoint.proofs.fill.Statement.{statement}
