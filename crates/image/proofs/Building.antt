@@ -24,8 +24,8 @@ use Rattle.table.specs.Calls.{begins, cannot}
 use Rattle.table.specs.Thread.{nextFree}
 use Rattle.table.proofs.Shape.{Lengths}
 use Rattle.table.proofs.Shape as shape
-use Rattle.image.specs.Rebuild.{fitting, slotIn, rebuiltTo, rebuilt, rebuiltFrom, arrays, arraysOf, begun, rebuild}
-use Rattle.image.proofs.Faults.{judgedAt, Ready, fitting-told, judged-refused, judged-ready}
+use Rattle.image.specs.Rebuild.{fitting, slotIn, rebuiltTo, rebuilt, rebuiltFrom, arrays, arraysOf, begun, rebuild, judgedAt}
+use Rattle.image.proofs.Faults.{Ready, fitting-told, judged-refused, judged-ready}
 use Rattle.image.proofs.Storing.{stored, stored-more, same-table, filled-few, lengths-to}
 
 -- what is known before the first store: the lists' lengths fit, and an accepted list of so many records is read from a place on

@@ -17,18 +17,7 @@ use Rattle.records.specs.Records.{versionOf, presenceOf, recordsFrom, countOf, 
 use Rattle.summaries.specs.Summaries.{wrongs, summaryOf, judgedFrom, judgedOf}
 use Rattle.records.proofs.Records.{count-is}
 use Rattle.records.proofs.Images.{records-length, by-list}
-use Rattle.image.specs.Rebuild.{firstWrong, fitting, judgedImage, countsIn, judgedCounts}
-
--- ---- 13 and 14, of what is kept of the records
-
-unfoldable pub fittingSummary : ℕ × Summary → Told (ℕ × Summary)
-fittingSummary j =
-    cond (eqb (j .1 .count) 0) (refused 13)
-    (cond (firstWrong (j .1 .version) (j .1 .presence)) (refused 13)
-    (cond (eqb (j .1 .wrong) 0) (tells j) (refused 14)))
-
-unfoldable pub judgedAt : List ℕ → ℕ → Told (ℕ × Summary)
-judgedAt s most = onward (judgedOf s most) fittingSummary
+use Rattle.image.specs.Rebuild.{firstWrong, fitting, judgedImage, countsIn, judgedCounts, fittingSummary, judgedAt}
 
 summary-fits : (from : ℕ) (l : List Record) → fittingSummary (from, summaryOf l) ≡ onward (fitting l) (λ m. tells (from, summaryOf m))
 unfolding fittingSummary fitting summaryOf

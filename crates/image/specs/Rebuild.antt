@@ -20,7 +20,8 @@ use Rattle.keys.specs.Keys.{pack}
 use Rattle.records.specs.declared.Record.{Record}
 use Rattle.records.specs.declared.Record.the-variants.{Vacant, Occupied}
 use Rattle.records.specs.Records.{versionOf, presenceOf, recordsOf}
-use Rattle.summaries.specs.Summaries.{lives, wrongs}
+use Rattle.summaries.specs.declared.Summary.{Summary}
+use Rattle.summaries.specs.Summaries.{lives, wrongs, judgedOf}
 use Rattle.table.specs.declared.Header.{Header}
 use Rattle.table.specs.Table.{Table, lengthsFit}
 use Rattle.table.specs.Calls.{Begun, begins, cannot}
@@ -49,6 +50,18 @@ countsIn (r ∷ l) = (length (r ∷ l), lives l)
 
 unfoldable pub judgedCounts : List ℕ → ℕ → Told (ℕ × ℕ)
 judgedCounts bytes most = onward (judgedImage bytes most) (λ l. tells (countsIn l))
+
+-- ---- the same faults, over what a judge keeps of the records
+
+unfoldable pub fittingSummary : ℕ × Summary → Told (ℕ × Summary)
+fittingSummary j =
+    cond (eqb (j .1 .count) 0) (refused 13)
+    (cond (firstWrong (j .1 .version) (j .1 .presence)) (refused 13)
+    (cond (eqb (j .1 .wrong) 0) (tells j) (refused 14)))
+
+-- the place of an image's first record, and what is kept of its records; or its first fault
+unfoldable pub judgedAt : List ℕ → ℕ → Told (ℕ × Summary)
+judgedAt s most = onward (judgedOf s most) fittingSummary
 
 -- ---- what the records say of each slot
 

@@ -1,12 +1,12 @@
 // What a call on a slot image answered, as one kind and up to three numbers.
 ghost use mathlib.Core.Path.{_≡_};
 ghost use Rattle.image_write.specs.Answers.{lengthOf};
-ghost use Rattle.image_read.specs.Answers.{countsOf};
+ghost use Rattle.image_judge.specs.Answers.{countsOf};
 ghost use Rattle.image_answers.specs.Listed.{listedLength, listedCounts};
 use answers::Answer;
 use answers::COUNTS;
 use answers::NUMBER;
-use image_read::Counts;
+use image_judge::Counts;
 use image_write::Length;
 
 pub fn length(image: Length) -> Answer

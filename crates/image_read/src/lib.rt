@@ -1,74 +1,21 @@
-// The slot image read: its faults, and a table rebuilt from it over lent arrays. The Rust's `dense.rs`, deserialize.
+// A table rebuilt from a slot image over lent arrays. The Rust's `dense.rs`, deserialize.
 ghost use mathlib.Core.Path.{_≡_};
 ghost use Rattle.numbers.specs.Told.{tells};
-ghost use Rattle.summaries.specs.Summaries.{judgementOf};
 ghost use Rattle.dense.specs.Lent.{table, before, after};
 ghost use Rattle.dense.specs.Answers.{begunOf};
-ghost use Rattle.image.specs.Rebuild.{firstWrong, judgedCounts, rebuiltFrom, rebuild};
-ghost use Rattle.image.proofs.Faults.{judgedAt};
+ghost use Rattle.image.specs.Rebuild.{rebuiltFrom, rebuild};
 ghost use Rattle.image.proofs.Storing.{stored};
 ghost use Rattle.image.proofs.Building.{Room, Starts};
-ghost use Rattle.image_read.specs.Answers.{countsOf, outcome};
+ghost use Rattle.image_read.specs.Answers.{outcome};
 use dense::Started;
 use dense::lengths_fit;
+use image_judge::judge;
 use keys::KeyData;
-use keys::is_odd;
 use records::Record;
 use records::RecordRead;
 use refusal::Refusal;
 use summaries::Judged;
 use table::Header;
-
-// How many slots an image has, and how many of them are occupied.
-pub enum Counts {
-    Slots { count: u32, live: u32 },
-    Refused(Refusal),
-}
-
-// ---- the faults
-
-// Whether a first record of this version and presence is wrong.
-fn first_wrong(version: u32, presence: u32) -> bool
-    ensures { λ r. ⌜ r ≡ firstWrong version presence ⌝ }
-{
-    is_odd(version)
-}
-
-// Judges a whole image of at most `most` slots: the faults of its records, then the first record, then the others' occupation.
-fn judge(bytes: &[u8], most: usize) -> Judged
-    ensures { λ r. ⌜ judgementOf r ≡ judgedAt (now (bytes .entry)) most ⌝ }
-{
-    match summaries::judge_records(bytes, most) {
-        Judged::Refused(why) => Judged::Refused(why),
-        Judged::Fine { from, summary } => {
-            if summary.count == 0 {
-                return Judged::Refused(Refusal::First);
-            }
-            if first_wrong(summary.version, summary.presence) {
-                return Judged::Refused(Refusal::First);
-            }
-            if summary.wrong != 0 {
-                return Judged::Refused(Refusal::Occupation);
-            }
-            Judged::Fine { from, summary }
-        }
-    }
-}
-
-// Whether a table of at most `most` slots can be rebuilt from an image, and how large it will be.
-pub fn judge_image(bytes: &[u8], most: usize) -> Counts
-    ensures { λ r. ⌜ countsOf r ≡ judgedCounts (now (bytes .entry)) most ⌝ }
-{
-    match judge(bytes, most) {
-        Judged::Refused(why) => Counts::Refused(why),
-        Judged::Fine { from: _, summary } => Counts::Slots {
-            count: summary.count,
-            live: summary.live,
-        },
-    }
-}
-
-// ---- rebuilding
 
 // Stores a record into the next slot. The header says what has been stored: the places filled, the slots, and the next-free number.
 // Slot 0 becomes version 0, link 0, whatever its record has.

@@ -1,5 +1,5 @@
 // The calls on a table and its image, each answered for the list. The arrays are the parts that the table has.
-use image_read::Counts;
+use image_judge::Counts;
 use image_write::Length;
 use libc::STDOUT_FILENO;
 use numbers::Written;
@@ -26,7 +26,7 @@ fn judge(bytes: &[u8], digits: usize, most: usize) -> Answer {
     if bytes.len() < n {
         return Answer::of(DONE, 0);
     }
-    match image_read::judge_image(&bytes[..n], most) {
+    match image_judge::judge_image(&bytes[..n], most) {
         Counts::Slots { count, live } => Answer::new(COUNTS, wide(count), wide(live), 0),
         Counts::Refused(why) => Answer::refused(why),
     }

@@ -1,6 +1,8 @@
 -- No second outcome: each reading of an answer is one-to-one, so a contract that is one equation is met by one answer, and by one map with it.
 -- Assumes nothing.
 use mathlib.Core.Path.{_≡_, sym, ap, _∙_}
+use mathlib.Core.List.{List}
+use Prim.Native.Nat.{ℕ}
 use Rattle.refusal.specs.Refusals.{numberOf}
 use Rattle.refusal.proofs.Numbers.{number-one-to-one}
 use Rattle.secondary.specs.declared.Length.{Length}
@@ -13,6 +15,7 @@ use Rattle.secondary.specs.declared.Got.{Got}
 use Rattle.secondary.specs.declared.Got.the-variants as Got·
 use Rattle.secondary.specs.declared.Step.{Step}
 use Rattle.secondary.specs.declared.Step.the-variants as Step·
+use Rattle.map.specs.declared.MapHeader.{MapHeader}
 use Rattle.map.specs.Map.{Map}
 use Rattle.map.specs.Calls.{Said, Out}
 use Rattle.secondary.specs.Answers.{lengthOf, truthOf, foundOf, gotOf, stepOf}
@@ -55,6 +58,10 @@ step-one-to-one (Step·.Refused r) Step·.Done e = cc
 step-one-to-one (Step·.Refused r) (Step·.Refused q) e = let n : numberOf r ≡ numberOf q = cc in ap Step·.Refused (number-one-to-one r q n)
 
 -- ---- an answer with the map after it: lookup, put, and in the crates above
+
+-- the arrays after a call and the header that it hands back
+abbrev pub mapOf : List ℕ → List ℕ → MapHeader → Map
+mapOf vs xs h = record { versions = vs; values = xs; head = h }
 
 pub out-only : {A : Type 0} (read : A → Said) → ((a b : A) → read a ≡ read b → a ≡ b) → (a b : A) (m n : Map) (o : Out) → _≡_ {A = Out} (read a, m) o → _≡_ {A = Out} (read b, n) o
     → (a ≡ b) × (m ≡ n)

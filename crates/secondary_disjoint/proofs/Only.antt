@@ -5,14 +5,10 @@ use Prim.Native.Nat.{ℕ}
 use Rattle.map.specs.declared.MapHeader.{MapHeader}
 use Rattle.map.specs.Map.{Map}
 use Rattle.map.specs.Calls.{Out}
-use Rattle.secondary.proofs.Only.{out-only}
+use Rattle.secondary.proofs.Only.{out-only, mapOf}
 use Rattle.secondary_sweep.specs.declared.Swept.{Swept}
 use Rattle.secondary_sweep.specs.Outcomes.{sweptOf}
 use Rattle.secondary_sweep.proofs.Only.{swept-one-to-one}
-
--- the arrays after the call and the header
-abbrev mapOf : List ℕ → List ℕ → MapHeader → Map
-mapOf vs xs h = record { versions = vs; values = xs; head = h }
 
 module _ (vs us xs ys : List ℕ) where
   pub disjoint-only : (r q : Swept) (h : MapHeader) (out outs : List ℕ) (o : Out × List ℕ) → _≡_ {A = Out × List ℕ} ((sweptOf r, mapOf vs xs h), out) o

@@ -10,7 +10,7 @@ use Rattle.secondary.specs.declared.Got.{Got}
 use Rattle.map.specs.Map.{Map}
 use Rattle.map.specs.Calls.{Out, Begun as Begins}
 use Rattle.secondary.specs.Answers.{gotOf}
-use Rattle.secondary.proofs.Only.{got-one-to-one, out-only}
+use Rattle.secondary.proofs.Only.{got-one-to-one, out-only, mapOf}
 use Rattle.secondary_enter.specs.declared.Begun.{Begun}
 use Rattle.secondary_enter.specs.declared.Begun.the-variants as Begun·
 use Rattle.secondary_enter.specs.declared.Inserted.{Inserted}
@@ -54,10 +54,6 @@ inserted-one-to-one (Inserted·.Refused r) Inserted·.Stored e = cc
 inserted-one-to-one (Inserted·.Refused r) (Inserted·.Refused q) e = let n : numberOf r ≡ numberOf q = cc in ap Inserted·.Refused (number-one-to-one r q n)
 
 -- ---- the outcomes
-
--- the arrays after a call and the header that it hands back
-abbrev mapOf : List ℕ → List ℕ → MapHeader → Map
-mapOf vs xs h = record { versions = vs; values = xs; head = h }
 
 pub fresh-only : (r q : Begun) (vs us : List ℕ) (o : Begins × List ℕ) → _≡_ {A = Begins × List ℕ} (begunOf r, vs) o → _≡_ {A = Begins × List ℕ} (begunOf q, us) o
     → (r ≡ q) × (vs ≡ us)

@@ -8,13 +8,9 @@ use Rattle.map.specs.Calls.{Out}
 use Rattle.secondary.specs.declared.Got.{Got}
 use Rattle.secondary.specs.declared.Step.{Step}
 use Rattle.secondary.specs.Answers.{gotOf, stepOf}
-use Rattle.secondary.proofs.Only.{got-one-to-one, step-one-to-one, out-only}
+use Rattle.secondary.proofs.Only.{got-one-to-one, step-one-to-one, out-only, mapOf}
 use Rattle.secondary_leave.specs.declared.Removal.{Removal}
 use Rattle.secondary_leave.specs.declared.Drained.{Drained}
-
--- the arrays after a call and the header that it hands back
-abbrev mapOf : List ℕ → List ℕ → MapHeader → Map
-mapOf vs xs h = record { versions = vs; values = xs; head = h }
 
 module _ (vs us xs ys : List ℕ) (o : Out) where
   pub remove-only : (r q : Removal) → _≡_ {A = Out} (gotOf (r .answer), mapOf vs xs (r .header)) o → _≡_ {A = Out} (gotOf (q .answer), mapOf us ys (q .header)) o

@@ -7,7 +7,7 @@ use Rattle.refusal.proofs.Numbers.{number-one-to-one}
 use Rattle.map.specs.declared.MapHeader.{MapHeader}
 use Rattle.map.specs.Map.{Map}
 use Rattle.map.specs.Calls.{Out}
-use Rattle.secondary.proofs.Only.{out-only}
+use Rattle.secondary.proofs.Only.{out-only, mapOf}
 use Rattle.secondary_sweep.specs.declared.Swept.{Swept}
 use Rattle.secondary_sweep.specs.declared.Swept.the-variants as Swept·
 use Rattle.secondary_sweep.specs.declared.Sweep.{Sweep}
@@ -18,10 +18,6 @@ swept-one-to-one Swept·.Done Swept·.Done e = cc
 swept-one-to-one Swept·.Done (Swept·.Refused r) e = cc
 swept-one-to-one (Swept·.Refused r) Swept·.Done e = cc
 swept-one-to-one (Swept·.Refused r) (Swept·.Refused q) e = let n : numberOf r ≡ numberOf q = cc in ap Swept·.Refused (number-one-to-one r q n)
-
--- the arrays after a call and the header
-abbrev mapOf : List ℕ → List ℕ → MapHeader → Map
-mapOf vs xs h = record { versions = vs; values = xs; head = h }
 
 module _ (vs us xs ys : List ℕ) where
   pub sweep-only : (r q : Sweep) (o : Out) → _≡_ {A = Out} (sweptOf (r .answer), mapOf vs xs (r .header)) o → _≡_ {A = Out} (sweptOf (q .answer), mapOf us ys (q .header)) o

@@ -1,7 +1,7 @@
 -- `counts` tells each case as the rules' answer. Assumes nothing.
 use mathlib.Core.Path.{sym, ap, _∙_}
-use Rattle.image_read.specs.declared.Counts.{Counts}
-use Rattle.image_read.specs.Answers.{countsOf}
+use Rattle.image_judge.specs.declared.Counts.{Counts}
+use Rattle.image_judge.specs.Answers.{countsOf}
 use Rattle.image_answers.specs.Listed.{listedCounts}
 use borrow.Author.Needs.{needs}
 use Rattle.image_answers.proofs.counts.Statement.{statement}

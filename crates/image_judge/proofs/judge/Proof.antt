@@ -9,10 +9,9 @@ use borrow.Author.Tests.{eq-eqb, ne-eqb}
 use Rattle.numbers.specs.Told.{Told, tells, refused, onward}
 use Rattle.summaries.specs.declared.Summary.{Summary}
 use Rattle.summaries.specs.Summaries.{judgementOf, judgedOf}
-use Rattle.image.specs.Rebuild.{firstWrong}
-use Rattle.image.proofs.Faults.{fittingSummary, judgedAt}
-use Rattle.image_read.proofs.judge.Statement.{statement}
-use Rattle.image_read.proofs.judge.Tie as tie
+use Rattle.image.specs.Rebuild.{firstWrong, fittingSummary, judgedAt}
+use Rattle.image_judge.proofs.judge.Statement.{statement}
+use Rattle.image_judge.proofs.judge.Tie as tie
 
 module _ (s : List ℕ) (most : ℕ) where
   refuses : (k : ℕ) → judgedOf s most ≡ refused k → refused k ≡ judgedAt s most

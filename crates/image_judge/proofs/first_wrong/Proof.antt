@@ -1,8 +1,8 @@
 -- `first_wrong` meets its contract. Assumes nothing.
 use borrow.Author.Needs.{needs}
 use Rattle.image.specs.Rebuild.{firstWrong}
-use Rattle.image_read.proofs.first_wrong.Statement.{statement}
-use Rattle.image_read.proofs.first_wrong.Tie as tie
+use Rattle.image_judge.proofs.first_wrong.Statement.{statement}
+use Rattle.image_judge.proofs.first_wrong.Tie as tie
 
 returns : tie.Need-returns
 unfolding firstWrong

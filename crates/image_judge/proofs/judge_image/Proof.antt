@@ -3,8 +3,8 @@ use borrow.Author.Needs.{needs}
 use mathlib.Core.Path.{sym, ap, _∙_}
 use Rattle.summaries.specs.Summaries.{judgementOf}
 use Rattle.image.proofs.Faults.{counts-refused, counts-told}
-use Rattle.image_read.proofs.judge_image.Statement.{statement}
-use Rattle.image_read.proofs.judge_image.Tie as tie
+use Rattle.image_judge.proofs.judge_image.Statement.{statement}
+use Rattle.image_judge.proofs.judge_image.Tie as tie
 
 returns : tie.Need-returns
 returns c = counts-refused _ _ _ (sym (c .before .before .before .judge .ensures) ∙ ap judgementOf (c .before .why .given .1))
