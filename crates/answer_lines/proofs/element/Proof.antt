@@ -7,4 +7,13 @@ returns : tie.Need-returns
 returns c = cc (c .before .before .labelled2 .ensures, c .before .before .before .before .before .before .before .labelled .ensures, c .before .before .before .before .before .before .before .before .before .before .before .before .key .ensures)
 
 pub element-spec : {M : Type 1} → statement M
-element-spec = tie.close (tie.spec (λ c κs. search needs) (λ c. search needs) (λ c κs. search needs) (λ c. search needs) (λ c κs. search needs) (λ c. search needs) returns)
+element-spec =
+    tie.close
+    (tie.spec
+    (λ c κs. search needs)
+    (λ c. search needs)
+    (λ c κs. search needs)
+    (λ c. search needs)
+    (λ c κs. search needs)
+    (λ c. search needs)
+    returns)

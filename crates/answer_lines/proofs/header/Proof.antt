@@ -7,4 +7,14 @@ returns : tie.Need-returns
 returns c = cc (c .before .before .labelled3 .ensures, c .before .before .before .before .before .before .before .labelled2 .ensures, c .before .before .before .before .before .before .before .before .before .before .before .before .labelled .ensures)
 
 pub header-spec : {M : Type 1} → statement M
-header-spec = tie.close (tie.spec (λ c. search needs) (λ c κs. search needs) (λ c. search needs) (λ c κs. search needs) (λ c. search needs) (λ c κs. search needs) (λ c. search needs) returns)
+header-spec =
+    tie.close
+    (tie.spec
+    (λ c. search needs)
+    (λ c κs. search needs)
+    (λ c. search needs)
+    (λ c κs. search needs)
+    (λ c. search needs)
+    (λ c κs. search needs)
+    (λ c. search needs)
+    returns)

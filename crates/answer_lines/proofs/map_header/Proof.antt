@@ -7,4 +7,12 @@ returns : tie.Need-returns
 returns c = cc (c .before .before .labelled2 .ensures, c .before .before .before .before .before .before .before .labelled .ensures)
 
 pub map-header-spec : {M : Type 1} → statement M
-map-header-spec = tie.close (tie.spec (λ c. search needs) (λ c κs. search needs) (λ c. search needs) (λ c κs. search needs) (λ c. search needs) returns)
+map-header-spec =
+    tie.close
+    (tie.spec
+    (λ c. search needs)
+    (λ c κs. search needs)
+    (λ c. search needs)
+    (λ c κs. search needs)
+    (λ c. search needs)
+    returns)

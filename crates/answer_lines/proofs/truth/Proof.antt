@@ -14,4 +14,14 @@ unfolding truthText
 returns-2 c = rw (ne-eqb _ 0 (c .before .before .before .before .before .if1 .left)) (c .before .before .bytes2 .ensures)
 
 pub truth-spec : {M : Type 1} → statement M
-truth-spec = tie.close (tie.spec (λ c. search needs) (λ c κs. search needs) (λ c. search needs) returns (λ c. search needs) (λ c κs. search needs) (λ c. search needs) returns-2)
+truth-spec =
+    tie.close
+    (tie.spec
+    (λ c. search needs)
+    (λ c κs. search needs)
+    (λ c. search needs)
+    returns
+    (λ c. search needs)
+    (λ c κs. search needs)
+    (λ c. search needs)
+    returns-2)

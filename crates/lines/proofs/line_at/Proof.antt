@@ -27,4 +27,13 @@ returns-2 c =
     ap (λ (n : ℕ). take (n - s .at) (drop (s .at) (s .text .now))) (c .before .before .line-end .ensures)
 
 pub line-at-spec : {M : Type 1} → statement M
-line-at-spec = tie.close (tie.spec (λ c κs. search needs) (λ c. search needs) returns (λ c. search needs) (λ c. search needs) part-result-end returns-2)
+line-at-spec =
+    tie.close
+    (tie.spec
+    (λ c κs. search needs)
+    (λ c. search needs)
+    returns
+    (λ c. search needs)
+    (λ c. search needs)
+    part-result-end
+    returns-2)

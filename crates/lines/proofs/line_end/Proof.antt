@@ -29,4 +29,16 @@ returns-2 : tie.Need-returns-2 Inv-loop μ-loop
 returns-2 c = line-end-last (c .before .before .args .text .now) (c .before .loop .i) (c .loop-test .left) ∙ c .before .loop .inv
 
 pub line-end-spec : {M : Type 1} → statement M
-line-end-spec = tie.close (tie.spec Inv-loop μ-loop (λ c. refl) (λ c. search needs) (λ c. search needs) returns (λ c. search needs) (λ c. search needs) loop-again returns-2)
+line-end-spec =
+    tie.close
+    (tie.spec
+    Inv-loop
+    μ-loop
+    (λ c. refl)
+    (λ c. search needs)
+    (λ c. search needs)
+    returns
+    (λ c. search needs)
+    (λ c. search needs)
+    loop-again
+    returns-2)

@@ -19,4 +19,16 @@ returns c =
     (wroteAll-then _ _ _ versions values (c .before .before .before .before .before .before .before .named-words .ensures) (c .before .before .named-numbers .ensures))
 
 pub map-state-spec : {M : Type 1} → statement M
-map-state-spec = tie.close (tie.spec (λ c. search needs) (λ c. search needs) (λ c κs. search needs) (λ c κs. search needs) (λ c. search needs) (λ c κs. search needs) (λ c. search needs) (λ c κs. search needs) (λ c. search needs) returns)
+map-state-spec =
+    tie.close
+    (tie.spec
+    (λ c. search needs)
+    (λ c. search needs)
+    (λ c κs. search needs)
+    (λ c κs. search needs)
+    (λ c. search needs)
+    (λ c κs. search needs)
+    (λ c. search needs)
+    (λ c κs. search needs)
+    (λ c. search needs)
+    returns)

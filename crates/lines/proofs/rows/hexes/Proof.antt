@@ -29,4 +29,18 @@ returns c =
     row-end hexText _ (l .i) _ _ _ (l .inv .1 .1) (c .before .before .before .before .before .loop-test .left) (c .before .before .bytes .ensures)
 
 pub hexes-spec : {M : Type 1} → statement M
-hexes-spec = tie.close (tie.spec Inv-loop μ-loop loop-holds (λ c. search needs) (λ c κs. search needs) (λ c. search needs) (λ c. search needs) loop-again (λ c. search needs) (λ c κs. search needs) (λ c. search needs) returns)
+hexes-spec =
+    tie.close
+    (tie.spec
+    Inv-loop
+    μ-loop
+    loop-holds
+    (λ c. search needs)
+    (λ c κs. search needs)
+    (λ c. search needs)
+    (λ c. search needs)
+    loop-again
+    (λ c. search needs)
+    (λ c κs. search needs)
+    (λ c. search needs)
+    returns)
