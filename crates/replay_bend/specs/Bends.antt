@@ -1,9 +1,10 @@
--- What the lines that bend do. A letter is its ASCII number, and the last number of a line is its c. Assumes nothing.
+-- What the lines do that are no calls. A letter is its ASCII number, and the last number of a line is its c. Assumes nothing.
 use Prim.Native.Nat.{ℕ, _+_, _%_}
 use mathlib.Core.Bool.{Bool, cond, _||_}
 use mathlib.Core.List.{List}
-use lib.ListN.{set}
-use lib.Dec.{eqb}
+use lib.ListN.{length, set}
+use lib.Dec.{eqb, leb}
+use Rattle.replay.specs.Lines.{keyNumber}
 use Rattle.replay.specs.declared.Line.{Line}
 use Rattle.table.specs.declared.Header.{Header}
 use Rattle.replay_bend.specs.declared.Lent.{Lent}
@@ -36,3 +37,13 @@ cell letter i x a = cond (eqb (i .op) letter) (set a (i .b) x) a
 unfoldable pub headedBy : Header → Line → Header
 headedBy h i =
     cond (eqb (i .op) 72) (record { n = i .a % 4294967296; s = i .b % 4294967296; f = i .c % 4294967296 }) h
+
+-- the keys that the next disjoint asks for, and how many there are
+abbrev pub asking : ℕ → List ℕ → ℕ × List ℕ
+asking n w = (n, w)
+
+-- `j` is the disjoint, `k` names a key; one that does not fit is left out
+unfoldable pub asked : Line → ℕ → List ℕ → ℕ × List ℕ
+asked i n w =
+    cond (eqb (i .op) 106) (asking 0 w)
+    (cond (eqb (i .op) 107) (cond (leb (length w) n) (asking n w) (asking (n + 1) (set w n (keyNumber (i .b) (i .c))))) (asking n w))

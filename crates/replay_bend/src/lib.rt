@@ -1,8 +1,10 @@
-// The lines of a list that bend a table or a map: how much of each array is lent, a cell, the header. No call leaves what they make.
+// The lines of a list that are no calls. Most bend a table or a map: how much of each array is lent, a cell, the header; no call leaves what
+// they make. The others name the keys of the next disjoint.
 ghost use mathlib.Core.Path.{_≡_};
 ghost use Prim.Native.Nat.{_%_};
-ghost use Rattle.replay_bend.specs.Bends.{isBend, lentBy, cell, headedBy};
+ghost use Rattle.replay_bend.specs.Bends.{isBend, lentAll, lentBy, cell, headedBy, asking, asked};
 use replay::Line;
+use replay::narrow;
 use table::Header;
 
 // How much of each array is lent.
@@ -12,6 +14,21 @@ pub struct Lent {
     pub keys: usize,
     pub values: usize,
     pub output: usize,
+}
+
+impl Lent {
+    // Before the first line.
+    pub fn none() -> Lent
+        ensures { λ r. ⌜ r ≡ lentAll 0 0 0 0 0 ⌝ }
+    {
+        Lent {
+            versions: 0,
+            links: 0,
+            keys: 0,
+            values: 0,
+            output: 0,
+        }
+    }
 }
 
 // The room for the places of a disjoint, unless a line lends less.
@@ -100,12 +117,6 @@ pub fn lend(before: Lent, line: Line) -> Lent
     before
 }
 
-fn narrow(x: u64) -> u32
-    ensures { λ r. ⌜ r ≡ x % 4294967296 ⌝ }
-{
-    (x % 4_294_967_296) as u32
-}
-
 // A cell of the array that a letter names.
 pub fn cell_u32(array: &mut [u32], letter: u8, line: Line)
     ensures { λ _. ⌜ now (array .exit) ≡ cell letter line (line .c % 4294967296) (now (array .entry)) ⌝ }
@@ -133,6 +144,25 @@ pub fn cell_u64(array: &mut [u64], letter: u8, line: Line)
     array[i] = line.c;
 }
 
+// A cell of the four arrays of a table.
+pub fn cells(
+    versions: &mut [u32],
+    links: &mut [u32],
+    keys: &mut [u64],
+    values: &mut [u64],
+    line: Line,
+)
+    ensures { λ _. ⌜ now (versions .exit) ≡ cell 86 line (line .c % 4294967296) (now (versions .entry)) ⌝ }
+    ensures { λ _. ⌜ now (links .exit) ≡ cell 85 line (line .c % 4294967296) (now (links .entry)) ⌝ }
+    ensures { λ _. ⌜ now (keys .exit) ≡ cell 75 line (line .c) (now (keys .entry)) ⌝ }
+    ensures { λ _. ⌜ now (values .exit) ≡ cell 88 line (line .c) (now (values .entry)) ⌝ }
+{
+    cell_u32(versions, b'V', line);
+    cell_u32(links, b'U', line);
+    cell_u64(keys, b'K', line);
+    cell_u64(values, b'X', line);
+}
+
 // The header of a table after a line.
 pub fn header(h: Header, line: Line) -> Header
     ensures { λ r. ⌜ r ≡ headedBy h line ⌝ }
@@ -145,4 +175,21 @@ pub fn header(h: Header, line: Line) -> Header
         };
     }
     h
+}
+
+// The keys that the next disjoint asks for: a line names one more, a disjoint takes them all. Answers how many there are.
+pub fn ask(wanted: &mut [u64], count: usize, line: Line) -> usize
+    ensures { λ r. ⌜ asking r (now (wanted .exit)) ≡ asked line count (now (wanted .entry)) ⌝ }
+{
+    if line.op == b'j' {
+        return 0;
+    }
+    if line.op != b'k' {
+        return count;
+    }
+    if wanted.len() <= count {
+        return count;
+    }
+    wanted[count] = line.key();
+    count + 1
 }
