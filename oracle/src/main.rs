@@ -1,17 +1,26 @@
-//! Makes lists of calls and answers them by the crate slotmap 1.1.1, unchanged. `regenerate` builds and runs it.
-//!   oracle calls WHICH             writes the list to standard output
-//!   oracle answers WHICH           answers the list on standard input, and counts the accepted and the refused calls on standard error
-//!   oracle bent SEED ROUNDS        makes bent tables and calls from a seed, and answers them by a plain reading of the rules, with no crate behind it
-//! WHICH is dense, sweep, image or secondary.
+//! Makes lists of calls and answers them. `regenerate` builds and runs it.
+//!   oracle calls WHICH             writes the list to standard output: a part that the crate slotmap knows, then the bent part
+//!   oracle answers WHICH           answers the list on standard input, and counts the accepted and the refused calls of each part on standard error
+//! WHICH is dense, sweep, image or secondary. The first part is answered by the crate slotmap 1.1.1, unchanged, and the plain reading of the rules
+//! has to answer the same; the bent part, from the first line on that bends, by the plain reading alone.
 mod bent;
+mod bent_maps;
+mod bent_tables;
 mod dense;
+mod dice;
 mod generate;
 mod image;
 mod lines;
 mod plain;
+mod plain_calls;
+mod plain_image;
+mod plain_secondary;
+#[cfg(test)]
+mod plain_tests;
 mod secondary;
 
 use lines::{Answer, Line};
+use plain_calls::{PlainMap, PlainTable, Reading};
 use std::collections::BTreeMap;
 use std::io::{BufRead, Write};
 
@@ -26,33 +35,68 @@ fn hush() {
     }));
 }
 
-fn answers(mut call: impl FnMut(Line) -> Answer) {
+/// The calls of a part, by letter and by refusal (0: accepted).
+#[derive(Default)]
+struct Counts(BTreeMap<char, BTreeMap<u32, u64>>);
+
+impl Counts {
+    fn add(&mut self, op: u8, answer: &Answer) {
+        let outcome = if let Answer::Refused(n) = answer { *n } else { 0 };
+        *self.0.entry(op as char).or_default().entry(outcome).or_default() += 1;
+    }
+
+    fn show(&self) {
+        let mut sums: BTreeMap<u32, u64> = BTreeMap::new();
+        for (op, outcomes) in &self.0 {
+            eprintln!("{op}  {}", Counts::line(outcomes));
+            for (n, count) in outcomes {
+                *sums.entry(*n).or_default() += count;
+            }
+        }
+        eprintln!("calls {}: {}", sums.values().sum::<u64>(), Counts::line(&sums));
+    }
+
+    fn line(outcomes: &BTreeMap<u32, u64>) -> String {
+        let refused: Vec<String> = outcomes.iter().filter(|o| *o.0 > 0).map(|(n, count)| format!("refused {n}: {count}")).collect();
+        format!("accepted {}  {}", outcomes.get(&0).unwrap_or(&0), refused.join("  "))
+    }
+}
+
+fn answers(mut by_crate: impl FnMut(&Line) -> Answer, mut reading: impl Reading) {
     let mut out = std::io::BufWriter::new(std::io::stdout().lock());
-    let mut counts: BTreeMap<char, BTreeMap<u32, u64>> = BTreeMap::new();
+    let (mut known, mut bent) = (Counts::default(), Counts::default());
+    let (mut bends, mut met) = (false, 0);
     for text in std::io::stdin().lock().lines() {
-        let line = Line::parse(&text.unwrap());
-        let op = line.op as char;
-        let answer = call(line);
+        let text = text.unwrap();
+        let line = Line::parse(&text);
+        bends |= bent::bends(line.op);
+        let sound = !bends || reading.is_sound();
+        let answer = reading.call(&line);
+        if !bends {
+            assert_eq!(by_crate(&line), answer, "the crate and the plain reading, at {text}");
+        }
         if answer == Answer::Silent {
             continue;
         }
-        let outcome = if let Answer::Refused(n) = answer { n } else { 0 };
-        *counts.entry(op).or_default().entry(outcome).or_default() += 1;
+        met += (!sound && !matches!(line.op, b'C' | b'L' | b's')) as u64;
+        if bends { &mut bent } else { &mut known }.add(line.op, &answer);
         writeln!(out, "{answer}").unwrap();
     }
     out.flush().unwrap();
-    let mut total = 0;
-    for (op, outcomes) in counts {
-        total += outcomes.values().sum::<u64>();
-        let refused: Vec<String> = outcomes.iter().filter(|o| *o.0 > 0).map(|(n, count)| format!("refused {n}: {count}")).collect();
-        eprintln!("{op}  accepted {}  {}", outcomes.get(&0).unwrap_or(&0), refused.join("  "));
-    }
-    eprintln!("calls {total}");
+    eprintln!("by the crate");
+    known.show();
+    eprintln!("bent, by the plain reading");
+    bent.show();
+    eprintln!("of these {met} on bent tables, states and fresh ones not counted");
 }
 
 fn answers_dense(output: usize) {
     let mut t = dense::Dense::new(output);
-    answers(|line| t.call(&line));
+    answers(|line| t.call(line), PlainTable::new(output));
+}
+
+fn with(first: String, bent: fn(&str) -> String) {
+    print!("{first}{}", bent(&first));
 }
 
 fn main() {
@@ -60,25 +104,19 @@ fn main() {
     let words: Vec<String> = std::env::args().skip(1).collect();
     let words: Vec<&str> = words.iter().map(|w| w.as_str()).collect();
     match words[..] {
-        ["calls", "dense"] => print!("{}", generate::dense()),
-        ["calls", "sweep"] => print!("{}", generate::sweep()),
-        ["calls", "secondary"] => print!("{}", generate::secondary()),
-        ["calls", "image"] => print!("{}", generate::images()),
+        ["calls", "dense"] => with(generate::dense(), bent_tables::dense),
+        ["calls", "sweep"] => with(generate::sweep(), bent_tables::sweep),
+        ["calls", "secondary"] => with(generate::secondary(), bent_maps::secondary),
+        ["calls", "image"] => with(generate::images(), bent_tables::images),
         ["answers", "dense"] | ["answers", "image"] => answers_dense(0),
         ["answers", "sweep"] => answers_dense(dense::OUTPUT),
         ["answers", "secondary"] => {
             let mut t = secondary::Secondary::new();
-            answers(|line| t.call(&line));
+            answers(|line| t.call(line), PlainMap::new());
         }
-        ["bent", seed, rounds] => match (seed.parse(), rounds.parse()) {
-            (Ok(seed), Ok(rounds)) => bent::run(seed, rounds),
-            _ => usage(),
-        },
-        _ => usage(),
+        _ => {
+            eprintln!("usage: oracle calls|answers dense|sweep|image|secondary");
+            std::process::exit(2);
+        }
     }
-}
-
-fn usage() {
-    eprintln!("usage: oracle calls|answers dense|sweep|image|secondary, or oracle bent SEED ROUNDS");
-    std::process::exit(2);
 }

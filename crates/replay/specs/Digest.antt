@@ -1,8 +1,8 @@
 -- The digest of many numbers, by which two programs compare whole states. Assumes nothing.
 use Prim.Native.Nat.{ℕ, _+_, _*_, _/_, _%_, _^_}
-use mathlib.Core.List.{List, [], _∷_}
+use mathlib.Core.List.{List}
 use lib.Bits.{bitXor}
-use Rattle.replay.specs.declared.Answer.{Answer}
+use Rattle.replay.specs.Runs.{run}
 
 -- a number of 64 bits with itself, shifted to the left or to the right, added bit by bit
 abbrev pub withLeft : ℕ → ℕ → ℕ
@@ -17,9 +17,4 @@ mixed h x = withLeft 17 (withRight 7 (withLeft 13 (((h + x) % 2 ^ 64 + 114007148
 
 -- a list of numbers, from its front on
 abbrev pub mixedAll : ℕ → List ℕ → ℕ
-mixedAll h [] = h
-mixedAll h (x ∷ xs) = mixedAll (mixed h x) xs
-
--- an answer of a kind and three numbers
-abbrev pub answered : ℕ → ℕ → ℕ → ℕ → Answer
-answered k x y z = record { kind = k; a = x; b = y; c = z }
+mixedAll h l = run mixed h l

@@ -1,12 +1,9 @@
-// What the programs that replay the crate's call lists share: lines of calls, answers as text, and the digest of whole states.
+// What the programs that replay the lists share: what a line of calls says, and the digest of whole states.
 ghost use mathlib.Core.Path.{_≡_};
-ghost use Prim.Native.Nat.{_<_};
-ghost use Rattle.refusal.specs.Refusals.{numberOf};
-ghost use Rattle.replay.specs.Digest.{mixed, mixedAll, answered};
-ghost use Rattle.replay.specs.Lines.{blank, longer, taken};
-use keys::KeyData;
-use libc::STDOUT_FILENO;
-use refusal::Refusal;
+ghost use Prim.Native.Nat.{_<_, _%_};
+ghost use Rattle.replay.specs.Digest.{mixed, mixedAll};
+ghost use Rattle.replay.specs.Lines.{blank, longer, taken, keyNumber, ruleOf};
+use rules::Rule;
 
 // ---- lines
 
@@ -54,10 +51,13 @@ impl Line {
         }
     }
 
-    // The line with a byte more.
+    // The line with a byte more. Its newline says nothing.
     pub fn take(self, byte: u8) -> Line
         ensures { λ r. ⌜ r ≡ taken self byte ⌝ }
     {
+        if byte == b'\n' {
+            return self;
+        }
         if self.op == 0 {
             return Line {
                 op: byte,
@@ -81,149 +81,55 @@ impl Line {
             c: with_digit(self.c, wide(byte) % 16),
         }
     }
-}
 
-// ---- answers
-
-// The kinds of answers, by what stands in their lines.
-pub const DONE: u64 = 0;
-
-pub const REFUSED: u64 = 1;
-
-pub const NUMBER: u64 = 2;
-
-pub const KEY: u64 = 3;
-// A key and its value.
-pub const PAIR: u64 = 4;
-// An element and the place to go on from.
-pub const STEP: u64 = 5;
-// So many places stand in the output.
-pub const PLACES: u64 = 6;
-
-pub const DIGEST: u64 = 7;
-// Two numbers.
-pub const COUNTS: u64 = 8;
-// The answer has been written, all but its newline.
-pub const WRITTEN: u64 = 9;
-// A secondary insert that stored nothing, at a newer version or at the null key.
-pub const KEPT: u64 = 10;
-
-pub const IGNORED: u64 = 11;
-
-// An answer: its kind and up to three numbers.
-pub struct Answer {
-    pub kind: u64,
-    pub a: u64,
-    pub b: u64,
-    pub c: u64,
-}
-
-impl Answer {
-    pub fn new(kind: u64, a: u64, b: u64, c: u64) -> Answer
-        ensures { λ r. ⌜ r ≡ answered kind a b c ⌝ }
+    // The key that the last two numbers name: index and version.
+    pub fn key(self) -> u64
+        ensures { λ r. ⌜ r ≡ keyNumber (self .b) (self .c) ⌝ }
     {
-        Answer { kind, a, b, c }
+        key_number(self.b, self.c)
     }
 
-    // An answer of at most one number.
-    pub fn of(kind: u64, a: u64) -> Answer
-        ensures { λ r. ⌜ r ≡ answered kind a 0 0 ⌝ }
+    // The key that stands before a value.
+    pub fn key_of_value(self) -> u64
+        ensures { λ r. ⌜ r ≡ keyNumber (self .a) (self .b) ⌝ }
     {
-        Answer::new(kind, a, 0, 0)
+        key_number(self.a, self.b)
     }
 
-    pub fn refused(why: Refusal) -> Answer
-        ensures { λ r. ⌜ r ≡ answered 1 (numberOf why) 0 0 ⌝ }
+    // The rule of a retain.
+    pub fn rule(self) -> Rule
+        ensures { λ r. ⌜ r ≡ ruleOf self ⌝ }
     {
-        Answer::of(REFUSED, why.number() as u64)
-    }
-}
-
-fn text(bytes: &[u8]) {
-    io::write_all(STDOUT_FILENO, bytes);
-}
-
-fn decimal(number: u64) {
-    io::print_decimal(STDOUT_FILENO, number);
-}
-
-fn hexadecimal(number: u64) {
-    io::print_hex(STDOUT_FILENO, number, 16);
-}
-
-fn print_key(k: u64) {
-    let key = KeyData::from_ffi(k);
-    decimal(key.idx as u64);
-    text(b"v");
-    decimal(key.version as u64);
-}
-
-// A number after a space.
-fn print_next(number: u64) {
-    text(b" ");
-    decimal(number);
-}
-
-// The first so many places of the output.
-fn print_places(places: &[u32], count: u64) {
-    text(b".");
-    let mut left = count;
-    let mut i = 0;
-    while i < places.len() {
-        if left == 0 {
-            return;
+        if self.op == b'v' {
+            return Rule::Values {
+                lo: self.b,
+                hi: self.c,
+            };
         }
-        print_next(wide_u32(places[i]));
-        i += 1;
-        left -= 1;
+        if self.op == b'm' {
+            return Rule::Masked {
+                mask: self.b,
+                wanted: self.c,
+            };
+        }
+        Rule::Indexes {
+            lo: narrow(self.b),
+            hi: narrow(self.c),
+        }
     }
 }
 
-fn print_kind(answer: Answer, places: &[u32]) {
-    let kind = answer.kind;
-    if kind == DONE {
-        return text(b".");
-    }
-    if kind == REFUSED {
-        text(b"-");
-        return decimal(answer.a);
-    }
-    if kind == NUMBER {
-        return decimal(answer.a);
-    }
-    if kind == DIGEST {
-        return hexadecimal(answer.a);
-    }
-    if kind == PLACES {
-        return print_places(places, answer.a);
-    }
-    if kind == COUNTS {
-        decimal(answer.a);
-        return print_next(answer.b);
-    }
-    if kind == WRITTEN {
-        return;
-    }
-    if kind == KEPT {
-        return text(b"k");
-    }
-    if kind == IGNORED {
-        return text(b"i");
-    }
-    print_key(answer.a);
-    if kind == PAIR {
-        return print_next(answer.b);
-    }
-    if kind == STEP {
-        print_next(answer.b);
-        print_next(answer.c);
-    }
+// A number's lower 32 bits.
+pub fn narrow(x: u64) -> u32
+    ensures { λ r. ⌜ r ≡ x % 4294967296 ⌝ }
+{
+    (x % 4_294_967_296) as u32
 }
 
-// Writes an answer as a line. Its places are the first of the output.
-pub fn print(answer: Answer, places: &[u32]) {
-    print_kind(answer, places);
-    text(b"\n");
+fn key_number(index: u64, version: u64) -> u64
+    ensures { λ r. ⌜ r ≡ keyNumber index version ⌝ }
+{
+    version % 4_294_967_296 * 4_294_967_296 + index % 4_294_967_296
 }
 
 // ---- digests

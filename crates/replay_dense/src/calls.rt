@@ -1,20 +1,22 @@
 // The calls on a table, each answered for the list. The arrays are the parts that the table has.
-use replay::Answer;
-use replay::DIGEST;
+use answers::Answer;
+use answers::DIGEST;
+use answers::counted;
+use answers::issued;
+use answers::placed;
+use answers::tested;
+use answers::value;
+use made::Made;
+use made::begun;
+use made::detach;
+use made::insert;
+use made::put;
+use made::reattach;
+use made::remove;
 use replay::Line;
-use replay_answers::Made;
-use replay_answers::counted;
-use replay_answers::done;
-use replay_answers::issued;
-use replay_answers::key_number;
-use replay_answers::nothing;
-use replay_answers::placed;
-use replay_answers::started;
-use replay_answers::state;
-use replay_answers::tested;
-use replay_answers::value;
-use replay_edits::insert;
-use replay_edits::leave;
+use replay_bend::Lent;
+use replay_lines::NO_LINE;
+use replay_state::state;
 use table::Header;
 
 fn lists(h: Header, versions: &[u32], links: &[u32], keys: &[u64], values: &[u64]) -> u64 {
@@ -63,33 +65,45 @@ fn look(
     Answer::of(DIGEST, state(h, versions, links, keys, values))
 }
 
-fn enter(
+// The calls that store one element or take one out. A key is the last two numbers of a line, or the two before the value.
+fn edit(
     h: Header,
     versions: &mut [u32],
     links: &mut [u32],
     keys: &mut [u64],
     values: &mut [u64],
-    op: u8,
-    k: u64,
-    x: u64,
+    line: Line,
 ) -> Made {
+    let op = line.op;
     if op == b'i' {
-        return insert(h, versions, links, keys, values, x);
+        return insert(h, versions, links, keys, values, line.c);
+    }
+    if op == b'r' {
+        return remove(h, versions, links, keys, values, line.key());
+    }
+    if op == b'd' {
+        return detach(h, versions, links, keys, values, line.key());
     }
     if op == b'a' {
-        let changed = dense_reattach::reattach(h, versions, links, keys, values, k, x);
-        let g = changed.header;
-        let verdict = changed.answer;
-        return Made {
-            header: g,
-            answer: done(verdict),
-        };
+        return reattach(
+            h,
+            versions,
+            links,
+            keys,
+            values,
+            line.key_of_value(),
+            line.c,
+        );
     }
-    let old = dense_enter::put(h, versions, links, keys, values, k, x);
-    Made {
-        header: h,
-        answer: value(old),
-    }
+    put(
+        h,
+        versions,
+        links,
+        keys,
+        values,
+        line.key_of_value(),
+        line.c,
+    )
 }
 
 // Whether a letter names a call that only looks, at the whole table or at a key.
@@ -101,7 +115,7 @@ fn looks_at(op: u8) -> bool {
     op == b'g' || op == b'c' || op == b'o'
 }
 
-// Makes the call of a line. A key is its last two numbers, or the two before the value.
+// Makes the call of a line.
 fn call(
     h: Header,
     versions: &mut [u32],
@@ -117,60 +131,61 @@ fn call(
             answer: look(h, versions, links, keys, values, op),
         };
     }
-    let k = key_number(line.b, line.c);
     if looks_at(op) {
         return Made {
             header: h,
-            answer: look_at(h, versions, links, keys, values, op, k),
+            answer: look_at(h, versions, links, keys, values, op, line.key()),
         };
     }
-    if op == b'r' || op == b'd' {
-        return leave(h, versions, links, keys, values, op == b'r', k);
-    }
     if op == b'C' {
-        return started(h, dense::fresh(versions, links, keys, values));
+        return begun(h, dense::fresh(versions, links, keys, values));
     }
-    enter(
-        h,
-        versions,
-        links,
-        keys,
-        values,
-        op,
-        key_number(line.a, line.b),
-        line.c,
-    )
+    edit(h, versions, links, keys, values, line)
 }
 
-// Lends a line the parts that a table of C has.
-pub fn call_on(
+fn silent(h: Header) -> Made {
+    Made {
+        header: h,
+        answer: Answer::of(NO_LINE, 0),
+    }
+}
+
+// Lends a line the parts that the table has; a line that bends reaches the whole arrays.
+pub(crate) fn call_on(
     h: Header,
     versions: &mut [u32],
     links: &mut [u32],
     keys: &mut [u64],
     values: &mut [u64],
-    c: usize,
+    lent: Lent,
     line: Line,
 ) -> Made {
-    if versions.len() <= c {
-        return nothing(h);
+    if replay_bend::bends(line.op) {
+        replay_bend::cells(versions, links, keys, values, line);
+        return silent(replay_bend::header(h, line));
     }
-    if links.len() <= c {
-        return nothing(h);
+    let a = lent.versions;
+    let b = lent.links;
+    let k = lent.keys;
+    let v = lent.values;
+    if versions.len() < a {
+        return silent(h);
     }
-    if keys.len() < c {
-        return nothing(h);
+    if links.len() < b {
+        return silent(h);
     }
-    if values.len() < c {
-        return nothing(h);
+    if keys.len() < k {
+        return silent(h);
     }
-    let slots = c + 1;
+    if values.len() < v {
+        return silent(h);
+    }
     call(
         h,
-        &mut versions[..slots],
-        &mut links[..slots],
-        &mut keys[..c],
-        &mut values[..c],
+        &mut versions[..a],
+        &mut links[..b],
+        &mut keys[..k],
+        &mut values[..v],
         line,
     )
 }

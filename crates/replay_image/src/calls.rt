@@ -1,35 +1,72 @@
 // The calls on a table and its image, each answered for the list. The arrays are the parts that the table has.
+use answers::Answer;
+use answers::COUNTS;
+use answers::DIGEST;
+use answers::NUMBER;
+use answers::WRITTEN;
 use image_judge::Counts;
 use image_write::Length;
-use libc::STDOUT_FILENO;
+use made::Made;
+use made::begun;
+use made::detach;
+use made::insert;
+use made::remove;
 use numbers::Written;
-use replay::Answer;
-use replay::COUNTS;
-use replay::DIGEST;
-use replay::DONE;
 use replay::Line;
-use replay::NUMBER;
-use replay::WRITTEN;
-use replay_answers::Made;
-use replay_answers::key_number;
-use replay_answers::nothing;
-use replay_answers::state;
-use replay_answers::wide;
-use replay_edits::begin;
-use replay_edits::insert;
-use replay_edits::leave;
+use replay_bend::Lent;
+use replay_lines::NO_LINE;
+use replay_state::state;
 use table::Header;
 
 // What an image would be rebuilt as, in a table of so many slots at most.
-fn judge(bytes: &[u8], digits: usize, most: usize) -> Answer {
-    let n = digits / 2;
-    if bytes.len() < n {
-        return Answer::of(DONE, 0);
-    }
-    match image_judge::judge_image(&bytes[..n], most) {
-        Counts::Slots { count, live } => Answer::new(COUNTS, wide(count), wide(live), 0),
+fn judge(bytes: &[u8], most: usize) -> Answer {
+    match image_judge::judge_image(bytes, most) {
+        Counts::Slots { count, live } => Answer::new(COUNTS, count as u64, live as u64, 0),
         Counts::Refused(why) => Answer::refused(why),
     }
+}
+
+// A table rebuilt from an image, or the judgement on it.
+fn from_image(
+    h: Header,
+    versions: &mut [u32],
+    links: &mut [u32],
+    keys: &mut [u64],
+    values: &mut [u64],
+    bytes: &[u8],
+    rebuilds: bool,
+) -> Made {
+    if rebuilds {
+        return begun(h, image_read::rebuild(versions, links, keys, values, bytes));
+    }
+    Made {
+        header: h,
+        answer: judge(bytes, versions.len()),
+    }
+}
+
+// The same, of the image that a line spells.
+fn from_line(
+    h: Header,
+    versions: &mut [u32],
+    links: &mut [u32],
+    keys: &mut [u64],
+    values: &mut [u64],
+    input: &[u8],
+    at: usize,
+    rebuilds: bool,
+) -> Made {
+    let mut bytes = [0u8; 65_600];
+    let n = replay_input::image_at(input, at, &mut bytes);
+    from_image(
+        h,
+        versions,
+        links,
+        keys,
+        values,
+        lines::first(&bytes, n),
+        rebuilds,
+    )
 }
 
 fn length(h: Header, versions: &[u32], links: &[u32], keys: &[u64], values: &[u64]) -> Answer {
@@ -39,29 +76,12 @@ fn length(h: Header, versions: &[u32], links: &[u32], keys: &[u64], values: &[u6
     }
 }
 
-// The first so many bytes, in hexadecimal.
-fn print_bytes(out: &[u8], count: usize) {
-    let mut i = 0;
-    while i < out.len() {
-        if count <= i {
-            return;
-        }
-        print_byte(out[i]);
-        i += 1;
-    }
-}
-
-fn print_byte(b: u8) {
-    io::print_hex(STDOUT_FILENO, b as u64, 2);
-}
-
-// An image that was written: its bytes, or its length and the whole buffer in one number.
+// An image that was written: how long it is, or its length and the whole buffer in one number.
 fn shown(out: &[u8], count: usize, digest: bool) -> Answer {
     if digest {
         return Answer::of(DIGEST, replay::mix_u8(replay::mix(0, count as u64), out));
     }
-    print_bytes(out, count);
-    Answer::of(WRITTEN, 0)
+    Answer::of(WRITTEN, count as u64)
 }
 
 // The image written into a buffer.
@@ -93,38 +113,31 @@ fn write_in(
     digest: bool,
 ) -> Answer {
     if out.len() < room {
-        return Answer::of(DONE, 0);
+        return Answer::of(NO_LINE, 0);
     }
     write(h, versions, links, keys, values, &mut out[..room], digest)
 }
 
-// The calls that store.
+// The calls that store, but for a rebuild.
 fn edit(
     h: Header,
     versions: &mut [u32],
     links: &mut [u32],
     keys: &mut [u64],
     values: &mut [u64],
-    bytes: &[u8],
-    digits: usize,
     line: Line,
 ) -> Made {
     let op = line.op;
     if op == b'i' {
         return insert(h, versions, links, keys, values, line.c);
     }
-    if op == b'r' || op == b'd' {
-        return leave(
-            h,
-            versions,
-            links,
-            keys,
-            values,
-            op == b'r',
-            key_number(line.b, line.c),
-        );
+    if op == b'r' {
+        return remove(h, versions, links, keys, values, line.key());
     }
-    begin(h, versions, links, keys, values, op == b'R', bytes, digits)
+    if op == b'd' {
+        return detach(h, versions, links, keys, values, line.key());
+    }
+    begun(h, dense::fresh(versions, links, keys, values))
 }
 
 // The calls that look at the table, or write its image.
@@ -158,9 +171,9 @@ fn call(
     links: &mut [u32],
     keys: &mut [u64],
     values: &mut [u64],
-    bytes: &[u8],
-    digits: usize,
     out: &mut [u8],
+    input: &[u8],
+    at: usize,
     line: Line,
 ) -> Made {
     let op = line.op;
@@ -170,50 +183,61 @@ fn call(
             answer: look(h, versions, links, keys, values, out, op, line.c as usize),
         };
     }
-    if op == b'J' {
-        return Made {
-            header: h,
-            answer: judge(bytes, digits, versions.len()),
-        };
+    if op == b'R' || op == b'J' {
+        return from_line(h, versions, links, keys, values, input, at, op == b'R');
     }
-    edit(h, versions, links, keys, values, bytes, digits, line)
+    edit(h, versions, links, keys, values, line)
 }
 
-// Lends a line the parts that a table of C has.
-pub fn call_on(
+fn silent(h: Header) -> Made {
+    Made {
+        header: h,
+        answer: Answer::of(NO_LINE, 0),
+    }
+}
+
+// Lends a line the parts that the table has; a line that bends reaches the whole arrays.
+pub(crate) fn call_on(
     h: Header,
     versions: &mut [u32],
     links: &mut [u32],
     keys: &mut [u64],
     values: &mut [u64],
-    bytes: &[u8; 65600],
-    digits: usize,
     out: &mut [u8],
-    c: usize,
+    lent: Lent,
+    input: &[u8],
+    at: usize,
     line: Line,
 ) -> Made {
-    if versions.len() <= c {
-        return nothing(h);
+    if replay_bend::bends(line.op) {
+        replay_bend::cells(versions, links, keys, values, line);
+        return silent(replay_bend::header(h, line));
     }
-    if links.len() <= c {
-        return nothing(h);
+    let a = lent.versions;
+    let b = lent.links;
+    let k = lent.keys;
+    let v = lent.values;
+    if versions.len() < a {
+        return silent(h);
     }
-    if keys.len() < c {
-        return nothing(h);
+    if links.len() < b {
+        return silent(h);
     }
-    if values.len() < c {
-        return nothing(h);
+    if keys.len() < k {
+        return silent(h);
     }
-    let slots = c + 1;
+    if values.len() < v {
+        return silent(h);
+    }
     call(
         h,
-        &mut versions[..slots],
-        &mut links[..slots],
-        &mut keys[..c],
-        &mut values[..c],
-        bytes,
-        digits,
+        &mut versions[..a],
+        &mut links[..b],
+        &mut keys[..k],
+        &mut values[..v],
         out,
+        input,
+        at,
         line,
     )
 }

@@ -1,107 +1,72 @@
-// The lines of a replay's input, read byte by byte; the digits of an image go into a buffer of its own.
-use libc::STDIN_FILENO;
+// The lines of a replay's input: what a line says, where the next one begins, and the bytes of an image that a line spells.
+ghost use mathlib.Core.Path.{_≡_};
+ghost use Prim.Native.Nat.{_<_};
+ghost use lib.ListN.{drop};
+ghost use mathlib.Core.List.{[], _∷_};
+ghost use Rattle.lines.specs.Lines.{page, wroteAll, lineAt};
+ghost use Rattle.replay_input.specs.Input.{said, nibbleOf, byteOf, spelled};
 use replay::Line;
 
-pub struct Reader {
-    // Whether there is a line: no, once the input has ended.
-    pub more: bool,
-    // How much of the buffer has been read, and how much it holds.
-    pub at: usize,
-    pub end: usize,
-    // How many hexadecimal digits of the line stand in the bytes.
-    pub digits: usize,
-    pub line: Line,
+fn parse(text: &[u8]) -> Line
+    ensures { λ r. ⌜ r ≡ said (now (text .entry)) ⌝ }
+{
+    let mut line = Line::new();
+    let mut i = 0;
+    while i < text.len() {
+        line = line.take(text[i]);
+        i += 1;
+    }
+    line
 }
 
-// Before the first line.
-pub fn start() -> Reader {
-    Reader {
-        more: true,
-        at: 0,
-        end: 0,
-        digits: 0,
-        line: Line::new(),
-    }
+// What the line that begins at a place says.
+pub fn line_at(input: &[u8], at: usize) -> Line
+    ensures { λ r. ⌜ r ≡ said (lineAt (now (input .entry)) at) ⌝ }
+{
+    parse(lines::line_at(input, at))
 }
 
-fn fill(r: Reader, buf: &mut [u8; 65536]) -> Reader {
-    let mut next = r;
-    let got = libc::read(STDIN_FILENO, buf);
-    if got <= 0 {
-        next.more = false;
-        return next;
+// The value of a hexadecimal digit.
+fn nibble(digit: u8) -> u8
+    ensures { λ r. ⌜ r ≡ nibbleOf digit ⌝ }
+    ensures { λ r. ⌜ r < 16 ⌝ }
+{
+    if digit < 58 {
+        return digit % 16;
     }
-    next.at = 0;
-    next.end = io::count(got, buf);
-    next
+    (digit % 16 + 9) % 16
 }
 
-// The value of a digit, 0 to 9 or a to f.
-fn nibble(b: u8) -> u8 {
-    if b < 58 {
-        return b % 16;
-    }
-    b % 16 + 9
+// The byte that two hexadecimal digits spell.
+fn byte(upper: u8, lower: u8) -> u8
+    ensures { λ r. ⌜ r ≡ byteOf upper lower ⌝ }
+{
+    nibble(upper) * 16 + nibble(lower)
 }
 
-// A byte with a digit more: it is the upper half, or the lower one.
-fn filled(old: u8, x: u8, upper: bool) -> u8 {
-    if upper {
-        return x << 4;
-    }
-    old | x
+// Puts a byte at a place.
+fn put(x: u8, at: usize, out: &mut [u8]) -> usize
+    ensures { λ r. ⌜ page r (now (out .exit)) ≡ wroteAll (page at (now (out .entry))) ((x ∷ []) ∷ []) ⌝ }
+{
+    lines::bytes(&[x], at, out)
 }
 
-// A hexadecimal digit more of an image. Answers how many there are.
-fn digit(bytes: &mut [u8; 65600], digits: usize, b: u8) -> usize {
-    let i = digits / 2;
-    if 65600 <= i {
-        return digits;
+// Writes the bytes that the digits behind a line's letter spell, two digits each. A byte that does not fit is left out.
+fn spell(line: &[u8], out: &mut [u8]) -> usize
+    ensures { λ r. ⌜ page r (now (out .exit)) ≡ wroteAll (page 0 (now (out .entry))) (spelled (drop 1 (now (line .entry)))) ⌝ }
+{
+    let mut place = 0;
+    let mut i = 0;
+    while 2 < line.len() - i {
+        place = put(byte(line[i + 1], line[i + 2]), place, out);
+        i += 2;
     }
-    bytes[i] = filled(bytes[i], nibble(b), digits % 2 == 0);
-    digits + 1
+    place
 }
 
-fn byte(r: Reader, bytes: &mut [u8; 65600], b: u8) -> Reader {
-    let line = r.line;
-    let mut next = r;
-    if line.op == b'R' || line.op == b'J' {
-        next.digits = digit(bytes, r.digits, b);
-        return next;
-    }
-    let longer = line.take(b);
-    next.line = longer;
-    next
-}
-
-// Reads on to the end of a line.
-pub fn next_line(r: Reader, buf: &mut [u8; 65536], bytes: &mut [u8; 65600]) -> Reader {
-    let mut now = Reader {
-        more: true,
-        at: r.at,
-        end: r.end,
-        digits: 0,
-        line: Line::new(),
-    };
-    let mut turns = u64::MAX;
-    while turns > 0 {
-        turns -= 1;
-        if now.end <= now.at {
-            now = fill(now, buf);
-        }
-        let at = now.at;
-        if !now.more {
-            break;
-        }
-        if 65536 <= at {
-            break;
-        }
-        let b = buf[at];
-        now.at = at + 1;
-        if b == b'\n' {
-            break;
-        }
-        now = byte(now, bytes, b);
-    }
-    now
+// Writes the image that the line that begins at a place spells. Answers its length.
+pub fn image_at(input: &[u8], at: usize, out: &mut [u8]) -> usize
+    ensures { λ r. ⌜ page r (now (out .exit)) ≡ wroteAll (page 0 (now (out .entry))) (spelled (drop 1 (lineAt (now (input .entry)) at))) ⌝ }
+{
+    spell(lines::line_at(input, at), out)
 }

@@ -1,19 +1,70 @@
 // A line of the list, as a call on a secondary map. The arrays are the parts that the map has.
+use answers::Answer;
+use answers::DIGEST;
 use map::MapHeader;
-use replay::Answer;
-use replay::DONE;
+use map_answers::counted;
+use map_answers::slotted;
+use map_answers::stepped;
+use map_answers::tested;
+use map_answers::value;
+use map_made::Made;
+use map_made::begun;
+use map_made::clear;
+use map_made::disjoint;
+use map_made::drain_step;
+use map_made::insert;
+use map_made::put;
+use map_made::remove;
+use map_made::retain;
 use replay::Line;
-use replay_answers::key_number;
-use replay_maps::Made;
-use replay_maps::disjoint;
-use replay_maps::drain;
-use replay_maps::enter;
-use replay_maps::fresh;
-use replay_maps::look;
-use replay_maps::look_at;
-use replay_maps::remove;
-use replay_maps::rule;
-use replay_maps::sweep;
+use replay::narrow;
+use replay_bend::Lent;
+use replay_lines::NO_LINE;
+
+fn bit(yes: bool) -> u64 {
+    if yes { 1 } else { 0 }
+}
+
+// Everything that a map holds, in one number: whether it is whole, the header, the arrays to their ends, and the output.
+fn state(h: MapHeader, versions: &[u32], values: &[u64], places: &[u32]) -> u64 {
+    let whole = bit(secondary::is_whole(h, versions, values));
+    let header = replay::mix(
+        replay::mix(replay::mix(0, whole), h.s as u64),
+        h.count as u64,
+    );
+    let slots = replay::mix_u64(replay::mix_u32(header, versions), values);
+    replay::mix_u32(slots, places)
+}
+
+fn look_at(h: MapHeader, versions: &[u32], values: &[u64], op: u8, k: u64) -> Answer {
+    if op == b'g' {
+        return value(secondary::lookup(h, versions, values, k));
+    }
+    if op == b'c' {
+        return tested(secondary::contains_key(h, versions, values, k));
+    }
+    slotted(secondary::slot(h, versions, values, k))
+}
+
+fn look(
+    h: MapHeader,
+    versions: &[u32],
+    values: &[u64],
+    places: &[u32],
+    op: u8,
+    place: u64,
+) -> Answer {
+    if op == b'l' {
+        return counted(secondary::len(h, versions, values));
+    }
+    if op == b'f' {
+        return tested(secondary::is_empty(h, versions, values));
+    }
+    if op == b'y' {
+        return stepped(secondary::peek(h, versions, values, narrow(place)));
+    }
+    Answer::of(DIGEST, state(h, versions, values, places))
+}
 
 fn looks(op: u8) -> bool {
     op == b'l' || op == b'f' || op == b'y' || op == b's'
@@ -23,40 +74,37 @@ fn looks_at(op: u8) -> bool {
     op == b'g' || op == b'c' || op == b'o'
 }
 
-fn sweeps(op: u8) -> bool {
-    op == b'v' || op == b'm' || op == b'x' || op == b'e'
-}
-
-// The calls that store one element or take one out.
+// The calls that store. A key is the last two numbers of a line, or the two before the value.
 fn edit(h: MapHeader, versions: &mut [u32], values: &mut [u64], line: Line) -> Made {
     let op = line.op;
+    if op == b'i' {
+        return insert(h, versions, values, line.key_of_value(), line.c);
+    }
+    if op == b'p' {
+        return put(h, versions, values, line.key_of_value(), line.c);
+    }
     if op == b'r' {
-        return remove(h, versions, values, key_number(line.b, line.c));
+        return remove(h, versions, values, line.key());
     }
     if op == b'z' {
-        return drain(h, versions, values, line.c);
+        return drain_step(h, versions, values, narrow(line.c));
+    }
+    if op == b'e' {
+        return clear(h, versions, values);
     }
     if op == b'L' {
-        return fresh(h, versions, values);
+        return begun(h, secondary_enter::fresh(versions, values));
     }
-    enter(
-        h,
-        versions,
-        values,
-        op == b'p',
-        key_number(line.a, line.b),
-        line.c,
-    )
+    retain(h, versions, values, line.rule())
 }
 
-// Makes the call of a line. A key is its last two numbers, or the two before the value.
+// Makes the call of a line.
 fn call(
     h: MapHeader,
     versions: &mut [u32],
     values: &mut [u64],
     places: &mut [u32],
     wanted: &[u64],
-    count: usize,
     line: Line,
 ) -> Made {
     let op = line.op;
@@ -69,60 +117,76 @@ fn call(
     if looks_at(op) {
         return Made {
             header: h,
-            answer: look_at(h, versions, values, op, key_number(line.b, line.c)),
+            answer: look_at(h, versions, values, op, line.key()),
         };
-    }
-    if sweeps(op) {
-        return sweep(h, versions, values, op == b'e', rule(op, line.b, line.c));
     }
     if op == b'j' {
         return Made {
             header: h,
-            answer: disjoint(h, versions, values, places, wanted, count),
+            answer: disjoint(h, versions, values, wanted, places),
         };
     }
     edit(h, versions, values, line)
 }
 
-fn nothing(h: MapHeader) -> Made {
+fn silent(h: MapHeader) -> Made {
     Made {
         header: h,
-        answer: Answer::of(DONE, 0),
+        answer: Answer::of(NO_LINE, 0),
     }
 }
 
-// Lends a line the parts that a map of this length has.
-pub fn call_on(
+// The header after a line that bends.
+fn headed(h: MapHeader, line: Line) -> MapHeader {
+    if line.op == b'H' {
+        return MapHeader {
+            s: narrow(line.b),
+            count: narrow(line.c),
+        };
+    }
+    h
+}
+
+// Lends a line the parts that the map has, of the output too, and the keys that wait; a line that bends reaches the whole arrays.
+pub(crate) fn call_on(
     h: MapHeader,
     versions: &mut [u32],
     values: &mut [u64],
     places: &mut [u32],
-    wanted: &[u64; 8],
+    wanted: &[u64],
     count: usize,
-    length: usize,
+    lent: Lent,
     line: Line,
 ) -> Made {
-    if versions.len() < length {
-        return nothing(h);
+    if replay_bend::bends(line.op) {
+        replay_bend::cell_u32(versions, b'V', line);
+        replay_bend::cell_u64(values, b'X', line);
+        return silent(headed(h, line));
     }
-    if values.len() < length {
-        return nothing(h);
+    if line.op == b'k' {
+        return silent(h);
+    }
+    let a = lent.versions;
+    let v = lent.values;
+    let o = lent.output;
+    if versions.len() < a {
+        return silent(h);
+    }
+    if values.len() < v {
+        return silent(h);
+    }
+    if places.len() < o {
+        return silent(h);
+    }
+    if wanted.len() < count {
+        return silent(h);
     }
     call(
         h,
-        &mut versions[..length],
-        &mut values[..length],
-        places,
-        wanted,
-        count,
+        &mut versions[..a],
+        &mut values[..v],
+        &mut places[..o],
+        &wanted[..count],
         line,
     )
-}
-
-// The length of the map after a line.
-pub fn size(line: Line, length: usize) -> usize {
-    if line.op == b'L' {
-        return line.c as usize;
-    }
-    length
 }

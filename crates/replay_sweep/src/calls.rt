@@ -1,52 +1,202 @@
 // A line of the list, as a call on a table. The arrays are the parts that the table has.
-use replay::Answer;
-use replay::DIGEST;
+use answers::Answer;
+use answers::DIGEST;
+use made::Made;
+use made::begun;
+use made::insert;
+use made_sweep::clear;
+use made_sweep::drain_step;
+use made_sweep::drain_step_by;
+use made_sweep::retain;
 use replay::Line;
-use replay_answers::Made;
-use replay_answers::state;
-use replay_edits::insert;
-use replay_sweeps::drain;
-use replay_sweeps::rule;
-use replay_sweeps::sweep;
+use replay_bend::Lent;
+use replay_lines::NO_LINE;
+use replay_state::state;
 use table::Header;
 
-fn sweeps(op: u8) -> bool {
-    op == b'v' || op == b'm' || op == b'x' || op == b'e'
-}
-
-// Makes the call of a line.
-pub fn call(
+// A table rebuilt from the image that a line spells.
+fn rebuild(
     h: Header,
     versions: &mut [u32],
     links: &mut [u32],
     keys: &mut [u64],
     values: &mut [u64],
-    places: &[u32],
+    input: &[u8],
+    at: usize,
+) -> Made {
+    let mut bytes = [0u8; 65_600];
+    let n = replay_input::image_at(input, at, &mut bytes);
+    begun(
+        h,
+        image_read::rebuild(versions, links, keys, values, lines::first(&bytes, n)),
+    )
+}
+
+// The calls that store, but for a rebuild.
+fn edit(
+    h: Header,
+    versions: &mut [u32],
+    links: &mut [u32],
+    keys: &mut [u64],
+    values: &mut [u64],
     line: Line,
 ) -> Made {
     let op = line.op;
-    if op == b's' {
-        return Made {
-            header: h,
-            answer: Answer::of(
-                DIGEST,
-                replay::mix_u32(state(h, versions, links, keys, values), places),
-            ),
-        };
-    }
     if op == b'i' {
         return insert(h, versions, links, keys, values, line.c);
     }
-    if sweeps(op) {
-        return sweep(
-            h,
-            versions,
-            links,
-            keys,
-            values,
-            op == b'e',
-            rule(op, line.b, line.c),
-        );
+    if op == b'z' {
+        return drain_step(h, versions, links, keys, values);
     }
-    drain(h, versions, links, keys, values, op == b'y')
+    if op == b'y' {
+        return drain_step_by(h, versions, links, keys, values);
+    }
+    if op == b'e' {
+        return clear(h, versions, links, keys, values);
+    }
+    if op == b'C' {
+        return begun(h, dense::fresh(versions, links, keys, values));
+    }
+    retain(h, versions, links, keys, values, line.rule())
+}
+
+// The calls that answer places or the whole state.
+fn look(
+    h: Header,
+    versions: &mut [u32],
+    links: &[u32],
+    keys: &[u64],
+    values: &[u64],
+    places: &mut [u32],
+    wanted: &[u64],
+    op: u8,
+) -> Answer {
+    if op == b'j' {
+        return made_sweep::disjoint(h, versions, links, keys, values, wanted, places);
+    }
+    Answer::of(
+        DIGEST,
+        replay::mix_u32(state(h, versions, links, keys, values), places),
+    )
+}
+
+// Makes the call of a line.
+fn call(
+    h: Header,
+    versions: &mut [u32],
+    links: &mut [u32],
+    keys: &mut [u64],
+    values: &mut [u64],
+    places: &mut [u32],
+    wanted: &[u64],
+    input: &[u8],
+    at: usize,
+    line: Line,
+) -> Made {
+    let op = line.op;
+    if op == b'R' {
+        return rebuild(h, versions, links, keys, values, input, at);
+    }
+    if op == b'j' || op == b's' {
+        return Made {
+            header: h,
+            answer: look(h, versions, links, keys, values, places, wanted, op),
+        };
+    }
+    edit(h, versions, links, keys, values, line)
+}
+
+fn silent(h: Header) -> Made {
+    Made {
+        header: h,
+        answer: Answer::of(NO_LINE, 0),
+    }
+}
+
+// Lends a line the parts that the table has.
+fn lend_table(
+    h: Header,
+    versions: &mut [u32],
+    links: &mut [u32],
+    keys: &mut [u64],
+    values: &mut [u64],
+    places: &mut [u32],
+    wanted: &[u64],
+    lent: Lent,
+    input: &[u8],
+    at: usize,
+    line: Line,
+) -> Made {
+    let a = lent.versions;
+    let b = lent.links;
+    let k = lent.keys;
+    let v = lent.values;
+    if versions.len() < a {
+        return silent(h);
+    }
+    if links.len() < b {
+        return silent(h);
+    }
+    if keys.len() < k {
+        return silent(h);
+    }
+    if values.len() < v {
+        return silent(h);
+    }
+    call(
+        h,
+        &mut versions[..a],
+        &mut links[..b],
+        &mut keys[..k],
+        &mut values[..v],
+        places,
+        wanted,
+        input,
+        at,
+        line,
+    )
+}
+
+// Lends a line the keys that wait and a part of the output; a line that bends reaches the whole arrays.
+pub(crate) fn call_on(
+    h: Header,
+    versions: &mut [u32],
+    links: &mut [u32],
+    keys: &mut [u64],
+    values: &mut [u64],
+    places: &mut [u32],
+    wanted: &[u64],
+    count: usize,
+    lent: Lent,
+    input: &[u8],
+    at: usize,
+    line: Line,
+) -> Made {
+    if replay_bend::bends(line.op) {
+        replay_bend::cells(versions, links, keys, values, line);
+        return silent(replay_bend::header(h, line));
+    }
+    if line.op == b'k' {
+        return silent(h);
+    }
+    let o = lent.output;
+    if places.len() < o {
+        return silent(h);
+    }
+    if wanted.len() < count {
+        return silent(h);
+    }
+    lend_table(
+        h,
+        versions,
+        links,
+        keys,
+        values,
+        &mut places[..o],
+        &wanted[..count],
+        lent,
+        input,
+        at,
+        line,
+    )
 }

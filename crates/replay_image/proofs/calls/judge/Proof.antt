@@ -1,9 +1,0 @@
--- `judge` lends the bytes of the image. Assumes nothing.
-use lib.ListN.{length-take}
-use borrow.Author.Needs.{needs}
-use native.Mathlib.Omega.{arith}
-use Rattle.replay_image.proofs.calls.judge.Statement.{statement}
-use Rattle.replay_image.proofs.calls.judge.Tie as tie
-
-pub judge-spec : {M : Type 1} → statement M
-judge-spec = tie.close (tie.spec (λ c κs. search needs) (λ c. search needs) (λ c. simp length-take (omega arith)) (λ c κs. search needs) (λ c. search needs) (λ c κs. search needs) (λ c κs. search needs) (λ c κs. search needs) (λ c. search needs) (λ c κs. search needs) (λ c. search needs) (λ c. search needs))
