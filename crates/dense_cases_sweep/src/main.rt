@@ -78,18 +78,14 @@ fn unsound() {
     let a = told(retain(h, &mut versions, &mut links, &mut keys, &mut values, all));
     let b = told(clear(a, &mut versions, &mut links, &keys, &values));
     show(b, &versions, &links, &keys, &values);
-    shapeless();
+    shapeless(&mut versions, &mut links, &keys, &values);
 }
 
-// The same arrays, under a header that has not their shape.
-fn shapeless() {
+// The same arrays, under a header that does not fit them.
+fn shapeless(versions: &mut [u32], links: &mut [u32], keys: &[u64], values: &[u64]) {
     let h = Header { n: 9, s: 2, f: 1 };
-    let mut versions = [0u32, 1];
-    let mut links = [0u32, 0];
-    let keys = [key(1, 1)];
-    let values = [7u64];
-    told(clear(h, &mut versions, &mut links, &keys, &values));
-    tell(Answer::truth(is_sound(h, &versions, &links, &keys, &values)));
+    told(clear(h, versions, links, keys, values));
+    tell(Answer::truth(is_sound(h, versions, links, keys, values)));
 }
 
 fn clears() {

@@ -116,11 +116,16 @@ fn retains() {
     let rule = Rule::Values { lo: 7, hi: 8 };
     let a = told(retain(bent, &mut versions, &values, rule));
     told(clear(a, &mut versions, &values));
+    sweeps(&mut versions, &values, rule);
+}
+
+// The same arrays, under the header that counts their elements.
+fn sweeps(versions: &mut [u32], values: &[u64], rule: Rule) {
     let h = MapHeader { s: 4, count: 3 };
-    let b = told(retain(h, &mut versions, &values, rule));
-    show(b, &versions, &values);
-    let g = told(clear(b, &mut versions, &values));
-    show(g, &versions, &values);
+    let a = told(retain(h, versions, values, rule));
+    show(a, versions, values);
+    let b = told(clear(a, versions, values));
+    show(b, versions, values);
 }
 
 fn places() {
@@ -133,10 +138,14 @@ fn places() {
     show_words(&out);
     let twice = [key(2, 3), key(2, 2)];
     tell(disjoint(h, &mut versions, &values, &twice, &mut out));
-    let mut short = [90u32; 1];
-    tell(disjoint(h, &mut versions, &values, &both, &mut short));
-    show_words(&short);
-    show_words(&versions);
+    too_short(h, &mut versions, &values, &both);
+}
+
+fn too_short(h: MapHeader, versions: &mut [u32], values: &[u64], wanted: &[u64]) {
+    let mut out = [90u32; 1];
+    tell(disjoint(h, versions, values, wanted, &mut out));
+    show_words(&out);
+    show_words(versions);
 }
 
 // ---- what the program prints
