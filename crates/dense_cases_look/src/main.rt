@@ -2,8 +2,10 @@
 // The remarks of standard input say what the rules give, one before each situation; the lines after a remark are what the calls answer.
 use answers::Answer;
 use dense::contains_key;
+use dense::is_empty;
 use dense::keys_as_slice;
 use dense::lookup;
+use dense::place;
 use dense::values_as_slice;
 use keys::KeyData;
 use libc::STDIN_FILENO;
@@ -35,7 +37,7 @@ fn main() {
 fn situations(text: &[u8]) {
     let mut at = 0;
     let mut k: u32 = 0;
-    while k < 7 {
+    while k < 8 {
         at = remark(text, at);
         situation(k);
         k += 1;
@@ -50,7 +52,8 @@ fn situation(k: u32) {
         3 => lists(),
         4 => judged_in_order(),
         5 => all_different(),
-        _ => output(),
+        6 => output(),
+        _ => stands(),
     }
 }
 
@@ -76,6 +79,31 @@ fn damaged() {
     tell(answers::tested(contains_key(h, &versions, &links, &keys, &values, key(2, 1))));
     told(put(h, &versions, &links, &keys, &mut values, key(2, 1), 9));
     show_numbers(&values);
+}
+
+fn stands() {
+    let h = Header { n: 2, s: 3, f: 3 };
+    stands_at(h, key(1, 1));
+    stands_at(h, key(1, 3));
+    stands_at(h, key(2, 1));
+    stands_at(Header { n: 3, s: 3, f: 3 }, key(1, 1));
+    empty(Header { n: 3, s: 3, f: 3 });
+}
+
+fn stands_at(h: Header, k: u64) {
+    let versions = [0u32, 1, 1];
+    let links = [0u32, 0, 1];
+    let keys = [key(1, 1), key(1, 1)];
+    let values = [7u64, 8];
+    tell(answers::placed(place(h, &versions, &links, &keys, &values, k)));
+}
+
+fn empty(h: Header) {
+    let versions = [0u32, 1, 1];
+    let links = [0u32, 0, 1];
+    let keys = [key(1, 1), key(2, 1)];
+    let values = [7u64, 8];
+    tell(answers::tested(is_empty(h, &versions, &links, &keys, &values)));
 }
 
 fn raw_key() {

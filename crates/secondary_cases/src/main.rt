@@ -33,7 +33,7 @@ fn main() {
 fn situations(text: &[u8]) {
     let mut at = 0;
     let mut k: u32 = 0;
-    while k < 6 {
+    while k < 7 {
         at = remark(text, at);
         situation(k);
         k += 1;
@@ -47,7 +47,8 @@ fn situation(k: u32) {
         2 => four_answers(),
         3 => grows(),
         4 => refused_inserts(),
-        _ => counts_up(),
+        5 => counts_up(),
+        _ => far_versions(),
     }
 }
 
@@ -116,6 +117,15 @@ fn counts_up() {
     let h = MapHeader { s: 3, count: 2 };
     let a = told(insert(h, &mut versions, &mut values, key(1, 1), 7));
     let b = told(insert(a, &mut versions, &mut values, key(2, 1), 8));
+    show(b, &versions, &values);
+}
+
+fn far_versions() {
+    let mut versions = [0u32, 1];
+    let mut values = [0u64, 5];
+    let h = MapHeader { s: 2, count: 1 };
+    let a = told(insert(h, &mut versions, &mut values, key(1, 4294967295), 7));
+    let b = told(insert(a, &mut versions, &mut values, key(1, 1), 8));
     show(b, &versions, &values);
 }
 

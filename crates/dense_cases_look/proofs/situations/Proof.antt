@@ -5,10 +5,10 @@ use Rattle.dense_cases_look.proofs.situations.Statement.{statement}
 use Rattle.dense_cases_look.proofs.situations.Tie as tie
 
 abbrev Inv-loop : tie.InvT-loop
-Inv-loop text at₀ k₀ at k = k ≤ 7
+Inv-loop text at₀ k₀ at k = k ≤ 8
 
 abbrev μ-loop : tie.MeasureT-loop
-μ-loop text at₀ k₀ at k = 7 - k
+μ-loop text at₀ k₀ at k = 8 - k
 
 pub situations-spec : {M : Type 1} → statement M
 situations-spec =

@@ -5,10 +5,10 @@ use Rattle.secondary_cases.proofs.situations.Statement.{statement}
 use Rattle.secondary_cases.proofs.situations.Tie as tie
 
 abbrev Inv-loop : tie.InvT-loop
-Inv-loop text at₀ k₀ at k = k ≤ 6
+Inv-loop text at₀ k₀ at k = k ≤ 7
 
 abbrev μ-loop : tie.MeasureT-loop
-μ-loop text at₀ k₀ at k = 6 - k
+μ-loop text at₀ k₀ at k = 7 - k
 
 pub situations-spec : {M : Type 1} → statement M
 situations-spec =
