@@ -28,12 +28,12 @@ fn main() {
     let mut text = io::large_buffer();
     let n = io::read_full(STDIN_FILENO, &mut text);
     let mut image = [0u8; 32];
-    lines(&text[..n], &mut image);
+    each_line(&text[..n], &mut image);
     small();
     wide();
 }
 
-fn lines(text: &[u8], image: &mut [u8]) {
+fn each_line(text: &[u8], image: &mut [u8]) {
     let mut line = Line {
         len: 0,
         half: NONE,
