@@ -1,6 +1,8 @@
-// Rebuilds into the smallest and the largest table, and into arrays that are too long. The remarks of standard input say what follows.
+// Rebuilds into the smallest and the largest table, and into arrays that are too long; and records read by the reader that holds the bytes. The remarks of
+// standard input say what follows.
 use answers::Answer;
 use answers::COUNTS;
+use answers::NUMBER;
 use dense::LIMIT;
 use dense::Started;
 use image_judge::Counts;
@@ -11,6 +13,9 @@ use libc::STDOUT_FILENO;
 use lines::first;
 use lines::line_at;
 use lines::line_end;
+use reader::record_in;
+use records::Record;
+use records::RecordRead;
 
 fn main() {
     let mut buffer = io::buffer();
@@ -20,8 +25,14 @@ fn main() {
     none();
     let b = remark(text, a);
     most();
-    remark(text, b);
+    let c = remark(text, b);
     beyond();
+    remark(text, c);
+    record(1);
+    record(3);
+    record(6);
+    record(10);
+    record(4);
 }
 
 fn begun(answer: Started) {
@@ -94,6 +105,27 @@ fn beyond() {
     begun(rebuild(&mut versions, &mut links, &mut keys, &mut values, &none));
     let mut few = [0u64; 1];
     begun(rebuild(&mut versions, &mut links, &mut keys, &mut few, &none));
+}
+
+// The record at a place of an image of three slots.
+fn record(at: usize) {
+    let bytes = [0x03u8, 0x00, 0x00, 0x01, 0x01, 0x07, 0x01, 0x01, 0xac, 0x02];
+    match record_in(&bytes, at) {
+        RecordRead::Read { slot, next } => read(slot, next),
+        RecordRead::Refused(why) => tell(Answer::refused(why)),
+    }
+}
+
+fn read(slot: Record, next: usize) {
+    match slot {
+        Record::Vacant { version } => tell(Answer::new(COUNTS, version as u64, next as u64, 0)),
+        Record::Occupied { version, value } => occupied(version, value, next),
+    }
+}
+
+fn occupied(version: u32, value: u64, next: usize) {
+    tell(Answer::new(COUNTS, version as u64, next as u64, 0));
+    tell(Answer::of(NUMBER, value));
 }
 
 // ---- what the program prints
