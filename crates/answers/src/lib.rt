@@ -36,7 +36,7 @@ pub const PLACES: u64 = 6;
 pub const DIGEST: u64 = 7;
 // Two numbers.
 pub const COUNTS: u64 = 8;
-// The answer has been written already.
+// How many bytes of an image stand in the output.
 pub const WRITTEN: u64 = 9;
 // The four answers of a secondary insert: the map has a newer version, the key is the null key, the value that was there before, a new element.
 pub const KEPT: u64 = 10;
