@@ -5,7 +5,6 @@ use answers::COUNTS;
 use answers::NUMBER;
 use dense::LIMIT;
 use dense::Started;
-use image_judge::Counts;
 use image_judge::judge_image;
 use image_read::rebuild;
 use libc::STDIN_FILENO;
@@ -83,10 +82,7 @@ fn most() {
 }
 
 fn counted(bytes: &[u8]) {
-    match judge_image(bytes, LIMIT + 1) {
-        Counts::Slots { count, live } => tell(Answer::new(COUNTS, count as u64, live as u64, 0)),
-        Counts::Refused(why) => tell(Answer::refused(why)),
-    }
+    tell(image_answers::counts(judge_image(bytes, LIMIT + 1)));
 }
 
 fn beyond() {

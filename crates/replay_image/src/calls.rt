@@ -1,11 +1,7 @@
 // The calls on a table and its image, each answered for the list. The arrays are the parts that the table has.
 use answers::Answer;
-use answers::COUNTS;
 use answers::DIGEST;
-use answers::NUMBER;
 use answers::WRITTEN;
-use image_judge::Counts;
-use image_write::Length;
 use made::Made;
 use made::begun;
 use made::detach;
@@ -20,10 +16,7 @@ use table::Header;
 
 // What an image would be rebuilt as, in a table of so many slots at most.
 fn judge(bytes: &[u8], most: usize) -> Answer {
-    match image_judge::judge_image(bytes, most) {
-        Counts::Slots { count, live } => Answer::new(COUNTS, count as u64, live as u64, 0),
-        Counts::Refused(why) => Answer::refused(why),
-    }
+    image_answers::counts(image_judge::judge_image(bytes, most))
 }
 
 // A table rebuilt from an image, or the judgement on it.
@@ -70,10 +63,7 @@ fn from_line(
 }
 
 fn length(h: Header, versions: &[u32], links: &[u32], keys: &[u64], values: &[u64]) -> Answer {
-    match image_write::image_len(h, versions, links, keys, values) {
-        Length::Bytes(n) => Answer::of(NUMBER, n as u64),
-        Length::Refused(why) => Answer::refused(why),
-    }
+    image_answers::length(image_write::image_len(h, versions, links, keys, values))
 }
 
 // An image that was written: how long it is, or its length and the whole buffer in one number.
