@@ -60,24 +60,50 @@ fn edit(
     retain(h, versions, links, keys, values, line.rule())
 }
 
-// The calls that answer places or the whole state.
-fn look(
+// The places of the keys that wait, in a part of the output.
+fn disjoint(
     h: Header,
     versions: &mut [u32],
     links: &[u32],
     keys: &[u64],
     values: &[u64],
     places: &mut [u32],
+    output: usize,
     wanted: &[u64],
-    op: u8,
+    count: usize,
 ) -> Answer {
-    if op == b'j' {
-        return made_sweep::disjoint(h, versions, links, keys, values, wanted, places);
+    if places.len() < output {
+        return Answer::of(NO_LINE, 0);
     }
-    Answer::of(
-        DIGEST,
-        replay::mix_u32(state(h, versions, links, keys, values), places),
+    if wanted.len() < count {
+        return Answer::of(NO_LINE, 0);
+    }
+    made_sweep::disjoint(
+        h,
+        versions,
+        links,
+        keys,
+        values,
+        &wanted[..count],
+        &mut places[..output],
     )
+}
+
+// The whole state, with a part of the output.
+fn whole(
+    h: Header,
+    versions: &[u32],
+    links: &[u32],
+    keys: &[u64],
+    values: &[u64],
+    places: &[u32],
+    output: usize,
+) -> Answer {
+    if places.len() < output {
+        return Answer::of(NO_LINE, 0);
+    }
+    let table = state(h, versions, links, keys, values);
+    Answer::of(DIGEST, replay::mix_u32(table, &places[..output]))
 }
 
 // Makes the call of a line.
@@ -88,7 +114,9 @@ fn call(
     keys: &mut [u64],
     values: &mut [u64],
     places: &mut [u32],
+    output: usize,
     wanted: &[u64],
+    count: usize,
     input: &[u8],
     at: usize,
     line: Line,
@@ -97,10 +125,26 @@ fn call(
     if op == b'R' {
         return rebuild(h, versions, links, keys, values, input, at);
     }
-    if op == b'j' || op == b's' {
+    if op == b'j' {
         return Made {
             header: h,
-            answer: look(h, versions, links, keys, values, places, wanted, op),
+            answer: disjoint(
+                h,
+                versions,
+                links,
+                keys,
+                values,
+                places,
+                output,
+                wanted,
+                count,
+            ),
+        };
+    }
+    if op == b's' {
+        return Made {
+            header: h,
+            answer: whole(h, versions, links, keys, values, places, output),
         };
     }
     edit(h, versions, links, keys, values, line)
@@ -113,8 +157,8 @@ fn silent(h: Header) -> Made {
     }
 }
 
-// Lends a line the parts that the table has.
-fn lend_table(
+// Lends a line the parts that the table has; a line that bends reaches the whole arrays.
+pub(crate) fn call_on(
     h: Header,
     versions: &mut [u32],
     links: &mut [u32],
@@ -122,11 +166,19 @@ fn lend_table(
     values: &mut [u64],
     places: &mut [u32],
     wanted: &[u64],
+    count: usize,
     lent: Lent,
     input: &[u8],
     at: usize,
     line: Line,
 ) -> Made {
+    if replay_bend::bends(line.op) {
+        replay_bend::cells(versions, links, keys, values, line);
+        return silent(replay_bend::header(h, line));
+    }
+    if line.op == b'k' {
+        return silent(h);
+    }
     let a = lent.versions;
     let b = lent.links;
     let k = lent.keys;
@@ -150,51 +202,9 @@ fn lend_table(
         &mut keys[..k],
         &mut values[..v],
         places,
+        lent.output,
         wanted,
-        input,
-        at,
-        line,
-    )
-}
-
-// Lends a line the keys that wait and a part of the output; a line that bends reaches the whole arrays.
-pub(crate) fn call_on(
-    h: Header,
-    versions: &mut [u32],
-    links: &mut [u32],
-    keys: &mut [u64],
-    values: &mut [u64],
-    places: &mut [u32],
-    wanted: &[u64],
-    count: usize,
-    lent: Lent,
-    input: &[u8],
-    at: usize,
-    line: Line,
-) -> Made {
-    if replay_bend::bends(line.op) {
-        replay_bend::cells(versions, links, keys, values, line);
-        return silent(replay_bend::header(h, line));
-    }
-    if line.op == b'k' {
-        return silent(h);
-    }
-    let o = lent.output;
-    if places.len() < o {
-        return silent(h);
-    }
-    if wanted.len() < count {
-        return silent(h);
-    }
-    lend_table(
-        h,
-        versions,
-        links,
-        keys,
-        values,
-        &mut places[..o],
-        &wanted[..count],
-        lent,
+        count,
         input,
         at,
         line,
