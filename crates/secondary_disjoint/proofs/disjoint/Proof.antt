@@ -1,4 +1,4 @@
--- `secondary_sweep::disjoint` meets its contract: the keys are marked and unmarked, and their slots put out. Assumes nothing.
+-- `secondary_disjoint::disjoint` meets its contract: the keys are marked and unmarked, and their slots put out. Assumes nothing.
 use Rattle.lists.proofs.Tests.{refuted, confirmed}
 use Rattle.map.specs.Sweeps.{disjoint}
 use Rattle.secondary_disjoint.proofs.Gives.{marking-told, gives-short, gives-done, gives-stopped}

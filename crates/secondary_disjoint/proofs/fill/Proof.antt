@@ -1,4 +1,4 @@
--- `secondary_sweep::fill` meets its contract: each turn puts one slot into the output. Assumes nothing.
+-- `secondary_disjoint::fill` meets its contract: each turn puts one slot into the output. Assumes nothing.
 use mathlib.Core.Path.{_≡_, refl, ap}
 use Prim.Native.Nat.{_+_, _-_, _≤_}
 use native.Mathlib.Omega.{arith}

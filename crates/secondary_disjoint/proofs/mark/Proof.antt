@@ -1,4 +1,4 @@
--- `secondary_sweep::mark` meets its contract: each turn marks one key more, or stops at the first that is not there. Assumes nothing.
+-- `secondary_disjoint::mark` meets its contract: each turn marks one key more, or stops at the first that is not there. Assumes nothing.
 use mathlib.Core.Path.{sym, ap, _∙_}
 use Prim.Native.Nat.{_-_}
 use native.Mathlib.Omega.{arith}

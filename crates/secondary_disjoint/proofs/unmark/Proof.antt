@@ -1,4 +1,4 @@
--- `secondary_sweep::unmark` meets its contract: each turn gives one slot its version back. Assumes nothing.
+-- `secondary_disjoint::unmark` meets its contract: each turn gives one slot its version back. Assumes nothing.
 use mathlib.Core.Path.{_≡_, refl, sym, ap, _∙_}
 use Prim.Native.Nat.{_-_, _≤_}
 use native.Mathlib.Omega.{arith}
