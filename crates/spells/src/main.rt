@@ -1,10 +1,8 @@
-// The spells of the rules, through the real code. The remarks of standard input are the rules' own words, one before each spell.
+// The spells of the rules that store, take out and write an image, through the real code. The remarks of standard input are the rules' own words, one before each spell.
 use answers::Answer;
 use answers::KEY;
-use dense::LIMIT;
 use dense::Started;
 use dense::fresh;
-use image_read::rebuild;
 use image_write::write_image;
 use keys::KeyData;
 use libc::STDIN_FILENO;
@@ -35,18 +33,8 @@ fn spells(text: &[u8]) {
     tell(Answer::of(KEY, 8589934597));
     let c = remark(text, b);
     detached();
-    let d = remark(text, c);
+    remark(text, c);
     wraps();
-    let e = remark(text, d);
-    threads();
-    let f = remark(text, e);
-    rebuilt(&[0x01, 0x02, 0x01, 0x05]);
-    let g = remark(text, f);
-    rebuilt(&[0x00]);
-    let h = remark(text, g);
-    rebuilt(&[0x01, 0x80, 0x00, 0x00]);
-    remark(text, h);
-    limits();
 }
 
 // The image of a table, as a line.
@@ -117,47 +105,6 @@ fn wraps() {
     let a = told(remove(h, &mut versions, &mut links, &mut keys, &mut values, last));
     show_words(&versions);
     told(insert(a, &mut versions, &mut links, &mut keys, &mut values, 6));
-}
-
-fn threads() {
-    let mut versions = [9u32; 3];
-    let mut links = [9u32; 3];
-    let mut keys = [9u64; 2];
-    let mut values = [9u64; 2];
-    let bytes = [0x03u8, 0x00, 0x00, 0x02, 0x00, 0x04, 0x00];
-    match rebuild(&mut versions, &mut links, &mut keys, &mut values, &bytes) {
-        Started::With(h) => {
-            tell(Answer::header(h));
-            told(insert(h, &mut versions, &mut links, &mut keys, &mut values, 7));
-        }
-        Started::Refused(why) => tell(Answer::refused(why)),
-    }
-}
-
-fn rebuilt(bytes: &[u8]) {
-    let mut versions = [9u32; 3];
-    let mut links = [9u32; 3];
-    let mut keys = [9u64; 2];
-    let mut values = [9u64; 2];
-    begun(rebuild(&mut versions, &mut links, &mut keys, &mut values, bytes));
-}
-
-fn limits() {
-    let mut versions = [0u32; LIMIT + 1];
-    let mut links = [0u32; LIMIT + 1];
-    let keys = [0u64; LIMIT];
-    let values = [0u64; LIMIT];
-    begun(fresh(&mut versions, &mut links, &keys, &values));
-    let mut more_versions = [0u32; LIMIT + 2];
-    let mut more_links = [0u32; LIMIT + 2];
-    let more_keys = [0u64; LIMIT + 1];
-    let more_values = [0u64; LIMIT + 1];
-    begun(fresh(
-        &mut more_versions,
-        &mut more_links,
-        &more_keys,
-        &more_values,
-    ));
 }
 
 // ---- what the program prints
