@@ -8,13 +8,14 @@ use mathlib.Core.List.{List, [], _∷_, flatten}
 use mathlib.Core.Option.{none}
 use Prim.Native.Nat.{ℕ, _+_, _*_, _≤_}
 use lib.ListN.{length}
+use Rattle.lists.specs.Among.{among}
 use Rattle.keys.specs.Keys.{asRead}
 use Rattle.table.specs.declared.Header.{Header}
 use Rattle.table.specs.Table.{Table, cap, lengthsFit}
 use Rattle.table.specs.Calls.{said-key, said-done, said-count, refused, begins, freshHead, fresh, freshTable}
 use Rattle.table.specs.Sound.{Sound}
 use Rattle.table.specs.Steps.{Call, c-lookup, c-insert, c-remove, c-detach, c-reattach, step, after, history}
-use Rattle.table.specs.Reading.{Reading, reading, valueIn, isIn}
+use Rattle.table.specs.Reading.{Reading, reading, valueIn}
 use Rattle.table.specs.Begins.{Begins, valueOr}
 use Rattle.table.proofs.Begins.{begins-after}
 use Rattle.table.proofs.Keeps.{sound-fresh, sound-after}
@@ -71,13 +72,13 @@ module _ (t : Table) (base : Reading) (b : Begins t base) (cs : List Call) (l : 
 
   -- `a`: `ok` exactly for a detached key
   pub reattach-answers : {k x : ℕ} → asked l ≡ asks (c-reattach k x)
-      → answered (after t cs) (asked l) .0 ≡ cond (isIn (reading base (history t cs) .detached) (asRead k)) said-done (refused 4)
+      → answered (after t cs) (asked l) .0 ≡ cond (among (asRead k) (reading base (history t cs) .detached)) said-done (refused 4)
   unfolding step
   reattach-answers {k} {x} e = called-said e ∙ reattach-reads t base b cs k x
 
   -- `i`: a key, as it is read, that neither lives nor is detached; 3 exactly where the live and the detached together are C
   pub insert-answers : {x : ℕ} (k : ℕ) → asked l ≡ asks (c-insert x) → answered (after t cs) (asked l) .0 ≡ said-key k
-      → (asRead k ≡ k) × (valueIn (reading base (history t cs) .live) k ≡ none) × (isIn (reading base (history t cs) .detached) k ≡ false)
+      → (asRead k ≡ k) × (valueIn (reading base (history t cs) .live) k ≡ none) × (among k (reading base (history t cs) .detached) ≡ false)
   unfolding step
   insert-answers {x} k e f = insert-new t base b cs x k (sym (called-said e) ∙ f)
 

@@ -17,7 +17,7 @@ use Rattle.table.specs.Table.{Table, ver, link, key, val, isLive, last}
 use Rattle.table.specs.Calls.{said-key, Out, begins, fresh, freshTable, insert}
 use Rattle.table.specs.Sound.{Sound}
 use Rattle.table.specs.Steps.{Call, step, after, history}
-use Rattle.table.specs.Reading.{Change, nothing, issued, returned, revalued, dies, parts, sieved, change, Reading, blank, changed, reading, valueIn, isIn, keysOf}
+use Rattle.table.specs.Reading.{Change, nothing, issued, returned, revalued, dies, parts, sieved, change, Reading, blank, changed, reading, valueIn, keysOf}
 use Rattle.table.specs.Begins.{find, away, Begins}
 use Rattle.table.proofs.Changes.{livesAfter, detachedAfter}
 use Rattle.table.proofs.Readings.{mem-value, mem-in, value-changed, detached-changed, NewKey, once-changed, once-detached, without-sublist, sifted-sublist, valued-sublist, except-sublist}
@@ -143,8 +143,8 @@ module _ (t : Table) (base : Reading) (b : Begins t base) where
   pub base-value : (k : ℕ) → asRead k ≡ k → valueIn (base .live) k ≡ find t k
   base-value k e = ap (valueIn (base .live)) (sym e) ∙ sym (b .finds k)
 
-  pub base-away : (k : ℕ) → asRead k ≡ k → isIn (base .detached) k ≡ away t k
-  base-away k e = ap (isIn (base .detached)) (sym e) ∙ sym (b .aways k)
+  pub base-away : (k : ℕ) → asRead k ≡ k → among k (base .detached) ≡ away t k
+  base-away k e = ap (λ (j : ℕ). among j (base .detached)) (sym e) ∙ sym (b .aways k)
 
   -- each key of the base is live or detached in the table
   pub base-live : (k : ℕ) → List·Memᴰ k (keysOf (base .live)) → Live t (idx k) (version k)

@@ -4,12 +4,13 @@ use mathlib.Core.Path.{_≡_, sym, subst}
 use mathlib.Core.List.{List, []}
 use Prim.Native.Nat.{ℕ}
 use lib.ListN.{length}
+use Rattle.lists.specs.Among.{among}
 use Rattle.keys.specs.Keys.{idx, version, asRead}
 use Rattle.table.specs.declared.Header.{Header}
 use Rattle.table.specs.Table.{Table, isDetached}
 use Rattle.table.specs.Calls.{said-count, begins, fresh, freshTable, len, lookup}
 use Rattle.table.specs.Steps.{History, after, history, Run, callsOf}
-use Rattle.table.specs.Reading.{Reading, blank, reading, valueIn, isIn}
+use Rattle.table.specs.Reading.{Reading, blank, reading, valueIn}
 use Rattle.table.specs.Begins.{Begins, valueOr}
 use Rattle.table.proofs.Runs.{run-after}
 use Rattle.table.proofs.Begins.{fresh-begins, begins-after}
@@ -29,7 +30,7 @@ module _ (t : Table) (base : Reading) (b : Begins t base) (h : History) (u : Tab
   run-lookup k = lookup-reads u (reading base h) run-begins [] k
 
   -- reattach's rule holds exactly where they say detached
-  pub run-detached : (k : ℕ) → isDetached u (idx k) (version k) ≡ isIn (reading base h .detached) (asRead k)
+  pub run-detached : (k : ℕ) → isDetached u (idx k) (version k) ≡ among (asRead k) (reading base h .detached)
   run-detached k = run-begins .aways k
 
   -- n is the number of keys that they leave alive

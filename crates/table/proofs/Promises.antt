@@ -10,6 +10,7 @@ use native.Mathlib.Nat.{zero-add}
 use native.Mathlib.Omega.{arith}
 use native.Mathlib.Decide.{decLt}
 use Rattle.lists.proofs.Tests.{split}
+use Rattle.lists.specs.Among.{among}
 use Rattle.keys.specs.Keys.{idx, version, asRead}
 use Rattle.rules.specs.declared.Rule.{Rule}
 use Rattle.table.specs.Table.{Table, link, key, val, isLive, dead, isDetached, last}
@@ -17,7 +18,7 @@ use Rattle.table.specs.Calls.{Said, said-key, said-value, said-pair, sai
 use Rattle.table.specs.Sweeps.{retain, clear}
 use Rattle.table.specs.Sound.{Sound}
 use Rattle.table.specs.Steps.{Call, c-insert, step, after, history}
-use Rattle.table.specs.Reading.{Change, change, Reading, changed, reading, valueIn, isIn, removedAt, removals, keysOf}
+use Rattle.table.specs.Reading.{Change, change, Reading, changed, reading, valueIn, removedAt, removals, keysOf}
 use Rattle.table.specs.Begins.{find, away, Begins, valueOr, isSome}
 use Rattle.table.proofs.Refused.{refused-keeps}
 use Rattle.table.proofs.Readings.{mem-value}
@@ -91,10 +92,10 @@ module _ (t : Table) (base : Reading) (b : Begins t base) (cs : List Call) where
   detach-reads k = detach-said (after t cs) (now .sound) k ∙ ap (valueOr (after t cs) k) (now .finds k)
 
   -- the reattach rule is met exactly where the reading says detached, and reattach is accepted exactly there
-  pub detached-reads : (k : ℕ) → isDetached (after t cs) (idx k) (version k) ≡ isIn (reading base (history t cs) .detached) (asRead k)
+  pub detached-reads : (k : ℕ) → isDetached (after t cs) (idx k) (version k) ≡ among (asRead k) (reading base (history t cs) .detached)
   detached-reads k = now .aways k
 
-  pub reattach-reads : (k x : ℕ) → reattach (after t cs) k x .0 ≡ cond (isIn (reading base (history t cs) .detached) (asRead k)) said-done (refused 4)
+  pub reattach-reads : (k x : ℕ) → reattach (after t cs) k x .0 ≡ cond (among (asRead k) (reading base (history t cs) .detached)) said-done (refused 4)
   reattach-reads k x = reattach-said (after t cs) (now .sound) k x ∙ ap (λ (d : Bool). cond d said-done (refused 4)) (now .aways k)
 
   pub retain-reads : (rule : Rule) → retain (after t cs) rule .0 ≡ said-done
@@ -107,7 +108,7 @@ module _ (t : Table) (base : Reading) (b : Begins t base) (cs : List Call) where
 
   -- the key is answered as it is read, and neither lives nor is detached
   pub insert-new : (x k : ℕ) → insert (after t cs) x .0 ≡ said-key k
-      → (asRead k ≡ k) × (valueIn (reading base (history t cs) .live) k ≡ none) × (isIn (reading base (history t cs) .detached) k ≡ false)
+      → (asRead k ≡ k) × (valueIn (reading base (history t cs) .live) k ≡ none) × (among k (reading base (history t cs) .detached) ≡ false)
   unfolding step change
   insert-new x k e =
       let q = insert-read (after t cs) (now .sound) x k e in

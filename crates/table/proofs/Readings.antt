@@ -16,7 +16,7 @@ use Rattle.lists.proofs.Tests.{split, true-false}
 use Rattle.lists.specs.Once.{Once}
 use Rattle.lists.proofs.Once.{once-head, once-tail, once-cons, once-sublist}
 use Rattle.keys.specs.Keys.{idx}
-use Rattle.table.specs.Reading.{Change, nothing, issued, returned, revalued, dies, parts, sieved, Reading, without, except, valued, sifted, changed, valueIn, isIn, droppedAt, keysOf}
+use Rattle.table.specs.Reading.{Change, nothing, issued, returned, revalued, dies, parts, sieved, Reading, without, except, valued, sifted, changed, valueIn, droppedAt, keysOf}
 use Rattle.table.proofs.Changes.{onSome, sieve, livesAfter, detachedAfter}
 
 -- ---- one entry: at its own key, and at another
@@ -29,11 +29,11 @@ value-other : (e : ℕ × ℕ) (l : List (ℕ × ℕ)) (k : ℕ) → k ≢ e .0 
 unfolding valueIn
 value-other e l k ne = rw (ne-eqb k (e .0) ne)
 
-in-same : (j : ℕ) (l : List ℕ) (k : ℕ) → k ≡ j → isIn (j ∷ l) k ≡ true
+in-same : (j : ℕ) (l : List ℕ) (k : ℕ) → k ≡ j → among k (j ∷ l) ≡ true
 unfolding among
 in-same j l k q = rw (eq-eqb k j q)
 
-in-other : (j : ℕ) (l : List ℕ) (k : ℕ) → k ≢ j → isIn (j ∷ l) k ≡ isIn l k
+in-other : (j : ℕ) (l : List ℕ) (k : ℕ) → k ≢ j → among k (j ∷ l) ≡ among k l
 unfolding among
 in-other j l k ne = rw (ne-eqb k j ne)
 
@@ -64,7 +64,7 @@ unfolding valueIn
 none-value [] k h = refl
 none-value (e ∷ l) k h = value-other e l k (λ q. h (List·Memᴰ·head q)) ∙ none-value l k (λ m. h (List·Memᴰ·tail m))
 
-pub in-mem : (l : List ℕ) (k : ℕ) → isIn l k ≡ true → List·Memᴰ k l
+pub in-mem : (l : List ℕ) (k : ℕ) → among k l ≡ true → List·Memᴰ k l
 unfolding among
 in-mem [] k e = true-false e refl
 in-mem (j ∷ l) k e =
@@ -72,7 +72,7 @@ in-mem (j ∷ l) k e =
     (λ q. List·Memᴰ·head q)
     (λ ne. List·Memᴰ·tail (in-mem l k (sym (in-other j l k ne) ∙ e)))
 
-pub mem-in : (l : List ℕ) (k : ℕ) → List·Memᴰ k l → isIn l k ≡ true
+pub mem-in : (l : List ℕ) (k : ℕ) → List·Memᴰ k l → among k l ≡ true
 mem-in [] k m = absurd (List·Memᴰ·not-nil m)
 mem-in (j ∷ l) k m =
     by-cases (ℕ-discrete k j)
@@ -139,7 +139,7 @@ value-sifted keeps k (e ∷ l) o =
     (λ y. rw y (value-other e (sifted keeps l) k ne ∙ ih))
     (λ y. rw y ih)))
 
-except-same : (j k : ℕ) (l : List ℕ) → k ≡ j → isIn (except j l) k ≡ false
+except-same : (j k : ℕ) (l : List ℕ) → k ≡ j → among k (except j l) ≡ false
 unfolding except among
 except-same j k [] q = refl
 except-same j k (i ∷ l) q =
@@ -147,7 +147,7 @@ except-same j k (i ∷ l) q =
     (λ p. rw (eq-eqb j i p) (except-same j k l q))
     (λ np. rw (ne-eqb j i np) (in-other i (except j l) k (λ p. np (sym q ∙ p)) ∙ except-same j k l q))
 
-except-other : (j k : ℕ) (l : List ℕ) → k ≢ j → isIn (except j l) k ≡ isIn l k
+except-other : (j k : ℕ) (l : List ℕ) → k ≢ j → among k (except j l) ≡ among k l
 unfolding except among
 except-other j k [] ne = refl
 except-other j k (i ∷ l) ne =
@@ -155,8 +155,8 @@ except-other j k (i ∷ l) ne =
     (λ p. rw (eq-eqb j i p) (except-other j k l ne ∙ sym (in-other i l k (λ q. ne (q ∙ sym p)))))
     (λ np. rw (ne-eqb j i np) (ap (cond (eqb k i) true) (except-other j k l ne)))
 
-pub in-except : (j k : ℕ) (l : List ℕ) → isIn (except j l) k ≡ cond (eqb k j) false (isIn l k)
-in-except j k l = pick k j false (isIn l k) (isIn (except j l) k) (except-same j k l) (except-other j k l)
+pub in-except : (j k : ℕ) (l : List ℕ) → among k (except j l) ≡ cond (eqb k j) false (among k l)
+in-except j k l = pick k j false (among k l) (among k (except j l)) (except-same j k l) (except-other j k l)
 
 -- ---- a reading follows each change
 
@@ -170,7 +170,7 @@ value-changed (dies j) r k o = value-without j k (r .live)
 value-changed (parts j) r k o = value-without j k (r .live)
 value-changed (sieved keeps) r k o = value-sifted keeps k (r .live) o
 
-pub detached-changed : (c : Change) (r : Reading) (k : ℕ) → isIn (changed c r .detached) k ≡ detachedAfter c k (isIn (r .detached) k)
+pub detached-changed : (c : Change) (r : Reading) (k : ℕ) → among k (changed c r .detached) ≡ detachedAfter c k (among k (r .detached))
 unfolding changed among
 detached-changed nothing r k = refl
 detached-changed (issued j x) r k = refl
@@ -189,7 +189,7 @@ NewKey (issued k x) r = valueIn (r .live) k ≡ none
 NewKey (returned k x) r = valueIn (r .live) k ≡ none
 NewKey (revalued k x) r = Unit {0}
 NewKey (dies k) r = Unit {0}
-NewKey (parts k) r = isIn (r .detached) k ≡ false
+NewKey (parts k) r = among k (r .detached) ≡ false
 NewKey (sieved keeps) r = Unit {0}
 
 pub without-sublist : (j : ℕ) (l : List (ℕ × ℕ)) → Sublistᴰ (keysOf (without j l)) (keysOf l)

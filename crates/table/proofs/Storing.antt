@@ -20,9 +20,9 @@ pub insert-free : (t : Table) (k x v : ℕ) → t .head .f < t .head .s → v �
 unfolding inserted
 insert-free t k x v h e = simp (tests, e)
 
-pub insert-new : (t : Table) (k x : ℕ) → t .head .s ≤ t .head .f → entered t (t .head .s) 1 k x (grownHead (t .head)) ≡ inserted t k x
+pub insert-grown : (t : Table) (k x : ℕ) → t .head .s ≤ t .head .f → entered t (t .head .s) 1 k x (grownHead (t .head)) ≡ inserted t k x
 unfolding inserted
-insert-new t k x h = simp tests
+insert-grown t k x h = simp tests
 
 -- ---- an element leaves: the slot's lists after free_slot are vs and ls, and p is the link that it had
 

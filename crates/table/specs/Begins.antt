@@ -5,12 +5,13 @@ use mathlib.Core.Bool.{Bool, true, false, cond}
 use mathlib.Core.List.{List, List·Memᴰ}
 use mathlib.Core.Option.{Option, none, some}
 use Prim.Native.Nat.{ℕ}
+use Rattle.lists.specs.Among.{among}
 use Rattle.lists.specs.Once.{Once}
 use Rattle.keys.specs.Keys.{idx, version, asRead}
 use Rattle.table.specs.Table.{Table, link, val, isLive, dead, isDetached}
 use Rattle.table.specs.Calls.{Said, said-value, refused}
 use Rattle.table.specs.Sound.{Sound}
-use Rattle.table.specs.Reading.{Reading, valueIn, isIn, keysOf}
+use Rattle.table.specs.Reading.{Reading, valueIn, keysOf}
 
 -- ---- the table's side
 
@@ -28,7 +29,7 @@ pub record Begins (t : Table) (base : Reading) : Type 0 where
   pub sound : Sound t
   -- the same keys live, with the same values, and the same are detached
   pub finds : (k : ℕ) → find t k ≡ valueIn (base .live) (asRead k)
-  pub aways : (k : ℕ) → away t k ≡ isIn (base .detached) (asRead k)
+  pub aways : (k : ℕ) → away t k ≡ among (asRead k) (base .detached)
   -- each key stands there once, as read
   pub live-once : Once (keysOf (base .live))
   pub live-read : (k : ℕ) → List·Memᴰ k (keysOf (base .live)) → asRead k ≡ k

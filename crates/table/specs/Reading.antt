@@ -114,13 +114,10 @@ unfoldable pub reading : Reading → History → Reading
 reading base [] = base
 reading base (e ∷ h) = changed (change (e .0) (e .1)) (reading base h)
 
--- the value of a live key; whether a key is detached
+-- the value of a live key
 unfoldable pub valueIn : List (ℕ × ℕ) → ℕ → Option ℕ
 valueIn [] k = none
 valueIn (e ∷ l) k = cond (eqb k (e .0)) (some (e .1)) (valueIn l k)
-
-abbrev pub isIn : List ℕ → ℕ → Bool
-isIn l k = among k l
 
 -- the live keys alone
 abbrev pub keysOf : List (ℕ × ℕ) → List ℕ
@@ -129,7 +126,7 @@ keysOf (e ∷ l) = e .0 ∷ keysOf l
 
 -- a key is live or detached
 abbrev pub Known : Reading → ℕ → Type 0
-Known r k = ((x : ℕ) × (valueIn (r .live) k ≡ some x)) ⊎ (isIn (r .detached) k ≡ true)
+Known r k = ((x : ℕ) × (valueIn (r .live) k ≡ some x)) ⊎ (among k (r .detached) ≡ true)
 
 -- ---- removals at an index: "drops, drain steps and clears count as removals"
 

@@ -1,7 +1,7 @@
 -- `dense_enter::fill` meets its contract: the free head is taken, else a slot is added. Assumes nothing.
 use borrow.Author.Needs.{needs}
 use Rattle.table.specs.Table.{entered}
-use Rattle.table.proofs.Storing.{insert-free, insert-new}
+use Rattle.table.proofs.Storing.{insert-free, insert-grown}
 use Rattle.dense_enter.proofs.fill.Statement.{statement}
 use Rattle.dense_enter.proofs.fill.Tie as tie
 
@@ -11,7 +11,7 @@ returns c = insert-free _ _ _ _ (c .before .before .before .before .before .if1 
 
 returns-2 : tie.Need-returns-2
 unfolding entered
-returns-2 c = insert-new _ _ _ (c .before .before .before .before .if1 .left)
+returns-2 c = insert-grown _ _ _ (c .before .before .before .before .if1 .left)
 
 pub fill-spec : {M : Type 1} → statement M
 fill-spec =
