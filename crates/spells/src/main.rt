@@ -32,8 +32,11 @@ fn spells(text: &[u8]) {
     let b = remark(text, a);
     tell(Answer::of(KEY, 8589934597));
     let c = remark(text, b);
+    tell(Answer::of(KEY, KeyData::null().as_ffi()));
+    tell(Answer::of(KEY, KeyData::new(4294967295, 3).as_ffi()));
+    let d = remark(text, c);
     detached();
-    remark(text, c);
+    remark(text, d);
     wraps();
 }
 
