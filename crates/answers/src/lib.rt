@@ -2,7 +2,7 @@
 ghost use mathlib.Core.Path.{_≡_};
 ghost use Rattle.refusal.specs.Refusals.{numberOf};
 ghost use Rattle.dense.specs.Answers.{valueSaid, issuedSaid, countSaid, truthSaid, doneSaid, judgedOf, begunOf};
-ghost use Rattle.dense_leave.specs.Answers.{pairSaid};
+ghost use Rattle.dense_drain.specs.Answers.{pairSaid};
 ghost use Rattle.answers.specs.Kinds.{answered, refusal, truth, headed, done, ended, places};
 ghost use Rattle.answers.specs.Listed.{listed, listedPlace, listedHeader};
 use dense::Counted;
@@ -12,7 +12,7 @@ use dense::Placed;
 use dense::Started;
 use dense::Tested;
 use dense::Verdict;
-use dense_leave::Drained;
+use dense_drain::Drained;
 use refusal::Refusal;
 use table::Header;
 

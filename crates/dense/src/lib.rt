@@ -1,12 +1,12 @@
-// The dense table over lent arrays: the calls that begin a table or only look at one. The Rust's `dense.rs`, read side.
+// The dense table over lent arrays: the answers of its calls, fresh, and the judgements that the other calls begin with: shape, and where a key stands.
 ghost use mathlib.Core.Path.{_≡_};
 ghost use mathlib.Core.List.{List};
 ghost use Prim.Native.Nat.{ℕ};
 ghost use Rattle.refusal.specs.Refusals.{numberOf};
 ghost use Rattle.table.specs.Table.{lengthsFit, hasShape, isLive, dead};
-ghost use Rattle.table.specs.Calls.{Begun, fresh, len, isEmpty, contains, listedKeys, listedValues, placeIn, place, lookup};
+ghost use Rattle.table.specs.Calls.{Begun, fresh, contains, placeIn, place};
 ghost use Rattle.dense.specs.Lent.{table, before};
-ghost use Rattle.dense.specs.Answers.{judgedOf, valueSaid, countSaid, truthSaid, begunOf};
+ghost use Rattle.dense.specs.Answers.{judgedOf, truthSaid, begunOf};
 ghost use Rattle.table.proofs.Shape.{Shape};
 use keys::KeyData;
 use refusal::Refusal;
@@ -124,58 +124,6 @@ pub fn fresh(versions: &mut [u32], links: &mut [u32], keys: &[u64], values: &[u6
     Started::With(Header { n: 0, s: 1, f: 1 })
 }
 
-pub fn len(h: Header, versions: &[u32], links: &[u32], keys: &[u64], values: &[u64]) -> Counted
-    ensures { λ r. ⌜ countSaid r ≡ len (before versions links keys values h) ⌝ }
-{
-    if !has_shape(h, versions, links, keys, values) {
-        return Counted::Refused(Refusal::Shape);
-    }
-    Counted::Count(h.n)
-}
-
-pub fn is_empty(h: Header, versions: &[u32], links: &[u32], keys: &[u64], values: &[u64]) -> Tested
-    ensures { λ r. ⌜ truthSaid r ≡ isEmpty (before versions links keys values h) ⌝ }
-{
-    if !has_shape(h, versions, links, keys, values) {
-        return Tested::Refused(Refusal::Shape);
-    }
-    Tested::Truth(h.n == 0)
-}
-
-// The live keys, as the first n of the caller's own array.
-pub fn keys_as_slice<'a>(
-    h: Header,
-    versions: &[u32],
-    links: &[u32],
-    keys: &'a [u64],
-    values: &[u64],
-) -> &'a [u64]
-    ensures { λ r. ⌜ (now r ≡ listedKeys (before versions links keys values h)) × (r .ptr ≡ keys .entry .ptr) ⌝ }
-{
-    if !has_shape(h, versions, links, keys, values) {
-        return &keys[..0];
-    }
-    let n = h.n as usize;
-    &keys[..n]
-}
-
-// The live values, beside their keys.
-pub fn values_as_slice<'a>(
-    h: Header,
-    versions: &[u32],
-    links: &[u32],
-    keys: &[u64],
-    values: &'a [u64],
-) -> &'a [u64]
-    ensures { λ r. ⌜ (now r ≡ listedValues (before versions links keys values h)) × (r .ptr ≡ values .entry .ptr) ⌝ }
-{
-    if !has_shape(h, versions, links, keys, values) {
-        return &values[..0];
-    }
-    let n = h.n as usize;
-    &values[..n]
-}
-
 // Whether a key is live, on a table that has its shape.
 fn is_live(
     h: Header,
@@ -254,22 +202,6 @@ pub fn place(
         return Placed::Refused(Refusal::Shape);
     }
     place_in(h, versions, links, keys, values, KeyData::from_ffi(k))
-}
-
-pub fn lookup(
-    h: Header,
-    versions: &[u32],
-    links: &[u32],
-    keys: &[u64],
-    values: &[u64],
-    k: u64,
-) -> Found
-    ensures { λ r. ⌜ valueSaid r ≡ lookup (before versions links keys values h) k .0 ⌝ }
-{
-    match place(h, versions, links, keys, values, k) {
-        Placed::At(p) => Found::Value(values[p]),
-        Placed::Refused(r) => Found::Refused(r),
-    }
 }
 
 pub fn contains_key(

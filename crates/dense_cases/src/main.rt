@@ -5,7 +5,7 @@ use answers::Answer;
 use answers::NUMBER;
 use dense::LIMIT;
 use dense::fresh;
-use dense::len;
+use dense_look::len;
 use keys::KeyData;
 use libc::STDIN_FILENO;
 use libc::STDOUT_FILENO;

@@ -2,11 +2,11 @@
 // The remarks of standard input say what the rules give, one before each situation; the lines after a remark are what the calls answer.
 use answers::Answer;
 use dense::contains_key;
-use dense::is_empty;
-use dense::keys_as_slice;
-use dense::lookup;
 use dense::place;
-use dense::values_as_slice;
+use dense_look::is_empty;
+use dense_look::keys_as_slice;
+use dense_look::lookup;
+use dense_look::values_as_slice;
 use keys::KeyData;
 use libc::STDIN_FILENO;
 use libc::STDOUT_FILENO;

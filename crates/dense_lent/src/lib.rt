@@ -3,10 +3,10 @@ ghost use mathlib.Core.Path.{_≡_};
 ghost use Rattle.table.specs.Calls.{drain};
 ghost use Rattle.dense.specs.Lent.{before, after};
 ghost use Rattle.dense.specs.Answers.{outcome};
-ghost use Rattle.dense_leave.specs.Answers.{pairSaid};
-use dense_leave::Drained;
-use dense_leave::Stepped;
-use dense_leave::drain_step;
+ghost use Rattle.dense_drain.specs.Answers.{pairSaid};
+use dense_drain::Drained;
+use dense_drain::Stepped;
+use dense_drain::drain_step;
 use table::Header;
 
 pub fn drain_step_in(

@@ -9,7 +9,7 @@ ghost use Rattle.dense_sweep.specs.Asked.{askedSaid};
 use dense::Changed;
 use dense::Verdict;
 use dense::has_shape;
-use dense_leave::drain_step;
+use dense_drain::drain_step;
 use dense_leave::remove;
 use dense_sound::is_sound;
 use keys::KeyData;

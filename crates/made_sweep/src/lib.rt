@@ -22,7 +22,7 @@ pub fn drain_step(
 ) -> Made
     ensures { λ r. ⌜ outcome r versions links keys values ≡ tells ended (drain (before versions links keys values h)) ⌝ }
 {
-    let stepped = dense_leave::drain_step(h, versions, links, keys, values);
+    let stepped = dense_drain::drain_step(h, versions, links, keys, values);
     let header = stepped.header;
     let answer = stepped.answer;
     Made {

@@ -20,8 +20,14 @@ use replay_state::state;
 use table::Header;
 
 fn lists(h: Header, versions: &[u32], links: &[u32], keys: &[u64], values: &[u64]) -> u64 {
-    let k = replay::mix_u64(0, dense::keys_as_slice(h, versions, links, keys, values));
-    replay::mix_u64(k, dense::values_as_slice(h, versions, links, keys, values))
+    let k = replay::mix_u64(
+        0,
+        dense_look::keys_as_slice(h, versions, links, keys, values),
+    );
+    replay::mix_u64(
+        k,
+        dense_look::values_as_slice(h, versions, links, keys, values),
+    )
 }
 
 fn look_at(
@@ -34,7 +40,7 @@ fn look_at(
     k: u64,
 ) -> Answer {
     if op == b'g' {
-        return value(dense::lookup(h, versions, links, keys, values, k));
+        return value(dense_look::lookup(h, versions, links, keys, values, k));
     }
     if op == b'c' {
         return tested(dense::contains_key(h, versions, links, keys, values, k));
@@ -54,10 +60,10 @@ fn look(
         return issued(dense_next::next_key(h, versions, links, keys, values));
     }
     if op == b'l' {
-        return counted(dense::len(h, versions, links, keys, values));
+        return counted(dense_look::len(h, versions, links, keys, values));
     }
     if op == b'f' {
-        return tested(dense::is_empty(h, versions, links, keys, values));
+        return tested(dense_look::is_empty(h, versions, links, keys, values));
     }
     if op == b't' {
         return Answer::of(DIGEST, lists(h, versions, links, keys, values));

@@ -7,11 +7,11 @@ use Prim.Native.Nat.{ℕ, _-_, _≤_, _<_}
 use native.Mathlib.Omega.{arith}
 use lib.ListN.{set}
 use borrow.Author.Tests.{eq-eqb, ne-eqb}
-use Rattle.keys.specs.Keys.{far, idx, asRead, up, down, odd}
+use Rattle.keys.specs.Keys.{asRead, up, down, odd}
 use Rattle.lists.proofs.Tests.{tests}
 use Rattle.table.specs.declared.Header.{Header}
-use Rattle.table.specs.Table.{Table, ver, link, key, val, hasShape, last, lastIdx, lastIsHeld, freedHead, partedHead, takenHead, grownHead, rejoinedHead, entered, freed, filled, left}
-use Rattle.table.specs.Calls.{Out, found, fails, said-value, said-pair, said-done, refused, inserted, leaving, remove, detach, berth, reattach, drain}
+use Rattle.table.specs.Table.{Table, ver, link, key, val, hasShape, last, lastIdx, lastIsHeld, freedHead, takenHead, grownHead, rejoinedHead, entered, freed, filled, left}
+use Rattle.table.specs.Calls.{Out, found, fails, said-pair, said-done, refused, inserted, berth, reattach, drain}
 use Rattle.table.proofs.Judged.{passed, went, found-same, Due, due}
 
 -- ---- insert
@@ -41,14 +41,6 @@ module _ (t : Table) (i l p : ℕ) (g : Header) (vs ls : List ℕ) (place : p �
       } ≡ left t i l g
   unfolding left freed filled
   left-moved ne j e = rw (ne-eqb (link t i) (last t) (λ q. ne (place ∙ q)), versions, links, place, e)
-
-pub remove-found : (t : Table) (k p i : ℕ) (u : Table) → leaving t k ≡ found p → i ≡ idx k → u ≡ left t i (t .head .f) (freedHead (t .head) i) → (said-value (val t p), u) ≡ remove t k
-unfolding remove
-remove-found t k p i u e q f = rw (e, f, q)
-
-pub detach-found : (t : Table) (k p i : ℕ) (u : Table) → leaving t k ≡ found p → i ≡ idx k → u ≡ left t i far (partedHead (t .head)) → (said-value (val t p), u) ≡ detach t k
-unfolding detach
-detach-found t k p i u e q f = rw (e, f, q)
 
 -- ---- reattach
 

@@ -1,7 +1,7 @@
 -- `drained` tells each case as the rules' answer. Assumes nothing.
 use mathlib.Core.Path.{sym, ap, _∙_}
-use Rattle.dense_leave.specs.declared.Drained.{Drained}
-use Rattle.dense_leave.specs.Answers.{pairSaid}
+use Rattle.dense_drain.specs.declared.Drained.{Drained}
+use Rattle.dense_drain.specs.Answers.{pairSaid}
 use Rattle.answers.specs.Kinds.{ended}
 use Rattle.answers.specs.Listed.{listed}
 use borrow.Author.Needs.{needs}

@@ -46,16 +46,16 @@ use denote.Signature.{plain, shrSliceOf}
 use Rattle.table.specs.Calls.{drain}
 use Rattle.dense.specs.Lent.{table}
 use Rattle.dense.specs.Answers.{outcome}
-use Rattle.dense_leave.specs.Answers.{pairSaid}
+use Rattle.dense_drain.specs.Answers.{pairSaid}
 use Rattle.table.specs.declared.Header.{Header}
-use Rattle.dense_leave.specs.declared.Drained.{Drained}
-use Rattle.dense_leave.specs.declared.Stepped.{Stepped}
+use Rattle.dense_drain.specs.declared.Drained.{Drained}
+use Rattle.dense_drain.specs.declared.Stepped.{Stepped}
 use Rattle.table.proofs.Header as H′
 use Rattle.table.proofs.Header.Laws as H″
-use Rattle.dense_leave.proofs.Drained as D′
-use Rattle.dense_leave.proofs.Drained.Laws as D″
-use Rattle.dense_leave.proofs.Stepped as S′
-use Rattle.dense_leave.proofs.Stepped.Laws as S″
+use Rattle.dense_drain.proofs.Drained as D′
+use Rattle.dense_drain.proofs.Drained.Laws as D″
+use Rattle.dense_drain.proofs.Stepped as S′
+use Rattle.dense_drain.proofs.Stepped.Laws as S″
 use Rattle.dense_lent.proofs.Parameters.{hvals, s, Lists, Words}
 use Rattle.dense_lent.proofs.drain_step_in as step
 use Rattle.dense_lent.proofs.drain_step_in.Symbol as step-def

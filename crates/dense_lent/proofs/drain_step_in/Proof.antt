@@ -45,20 +45,20 @@ use denote.Signature.{plain, shrSliceOf}
 use Rattle.table.specs.Calls.{drain}
 use Rattle.dense.specs.Lent.{table}
 use Rattle.dense.specs.Answers.{outcome}
-use Rattle.dense_leave.specs.Answers.{pairSaid}
+use Rattle.dense_drain.specs.Answers.{pairSaid}
 use Rattle.table.specs.declared.Header.{Header}
-use Rattle.dense_leave.specs.declared.Stepped.{Stepped}
+use Rattle.dense_drain.specs.declared.Stepped.{Stepped}
 use Rattle.table.proofs.Header as H′
 use Rattle.table.proofs.Header.Laws as H″
-use Rattle.dense_leave.proofs.Drained as D′
-use Rattle.dense_leave.proofs.Drained.Laws as D″
-use Rattle.dense_leave.proofs.Stepped as S′
-use Rattle.dense_leave.proofs.Stepped.Laws as S″
+use Rattle.dense_drain.proofs.Drained as D′
+use Rattle.dense_drain.proofs.Drained.Laws as D″
+use Rattle.dense_drain.proofs.Stepped as S′
+use Rattle.dense_drain.proofs.Stepped.Laws as S″
 use Rattle.dense_lent.proofs.Parameters.{hvals, s, Lists, Words}
-use Rattle.dense_leave.proofs.drain_step as step
-use Rattle.dense_leave.proofs.drain_step.Symbol as step-def
-use Rattle.dense_leave.proofs.drain_step.Symbol.{name as #step}
-use Rattle.dense_leave.proofs.drain_step.Met as step-thm
+use Rattle.dense_drain.proofs.drain_step as step
+use Rattle.dense_drain.proofs.drain_step.Symbol as step-def
+use Rattle.dense_drain.proofs.drain_step.Symbol.{name as #step}
+use Rattle.dense_drain.proofs.drain_step.Met as step-thm
 use Rattle.dense_lent.proofs.drain_step_in.Key.{name as #self}
 use Rattle.dense_lent.proofs.drain_step_in as f
 use Rattle.dense_lent.proofs.drain_step_in.Statement as stated
@@ -242,4 +242,4 @@ drain-step-in-spec 𝓤 H 𝓜 𝓖 𝓡 =
     entered 𝓤 H (tripleOf 𝓤 H (𝓖 .A) f.signature (f.spec 𝓤 H (𝓖 .A) (𝓜 .mem) (𝓡 .run)))
     (tables 𝓤 H 𝓜 𝓡 code.env .C) (tables 𝓤 H 𝓜 𝓡 code.env .Λ) #self code.function (code.unfolded 𝓤 H 𝓜 𝓡)
     (meets 𝓤 H (𝓖 .A) (givenOf 𝓤 H 𝓜 𝓖) (𝓜 .mem) (𝓡 .run) (tablesOf 𝓤 H 𝓜 (tables 𝓤 H 𝓜 𝓡 code.env))
-    (cited 𝓤 H (Step 𝓤 H (𝓖 .A) (𝓜 .mem) (𝓡 .run)) 𝓜 𝓡 code.env #step step-def.routine code.calls-dense-leave·drain-step (step-thm.met 𝓤 H 𝓜 𝓖 𝓡)))
+    (cited 𝓤 H (Step 𝓤 H (𝓖 .A) (𝓜 .mem) (𝓡 .run)) 𝓜 𝓡 code.env #step step-def.routine code.calls-dense-drain·drain-step (step-thm.met 𝓤 H 𝓜 𝓖 𝓡)))

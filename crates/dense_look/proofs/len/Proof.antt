@@ -1,9 +1,9 @@
--- `dense::len` meets its contract. Assumes nothing.
+-- `dense_look::len` meets its contract. Assumes nothing.
 use borrow.Author.Needs.{needs}
 use Rattle.lists.proofs.Tests.{refuted, confirmed}
 use Rattle.table.specs.Calls.{len}
-use Rattle.dense.proofs.len.Statement.{statement}
-use Rattle.dense.proofs.len.Tie as tie
+use Rattle.dense_look.proofs.len.Statement.{statement}
+use Rattle.dense_look.proofs.len.Tie as tie
 
 returns : tie.Need-returns
 unfolding len

@@ -1,11 +1,11 @@
--- `dense::lookup` meets its contract: the value at the judged place. Assumes nothing.
+-- `dense_look::lookup` meets its contract: the value at the judged place. Assumes nothing.
 use borrow.Author.Needs.{needs}
 use native.Mathlib.Omega.{arith}
 use Rattle.table.specs.Calls.{lookup}
 use Rattle.table.proofs.Judged.{standing}
 use Rattle.dense.proofs.Answers.{placed-at}
-use Rattle.dense.proofs.lookup.Statement.{statement}
-use Rattle.dense.proofs.lookup.Tie as tie
+use Rattle.dense_look.proofs.lookup.Statement.{statement}
+use Rattle.dense_look.proofs.lookup.Tie as tie
 
 mul-t11 : tie.Need-mul-t11
 mul-t11 c = omega (arith, standing _ _ _ (placed-at (c .before .before .before .place .ensures) (c .before .p .given .1)))

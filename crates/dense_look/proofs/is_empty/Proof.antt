@@ -1,9 +1,9 @@
--- `dense::is_empty` meets its contract. Assumes nothing.
+-- `dense_look::is_empty` meets its contract. Assumes nothing.
 use borrow.Author.Needs.{needs}
 use Rattle.lists.proofs.Tests.{refuted, confirmed}
 use Rattle.table.specs.Calls.{isEmpty}
-use Rattle.dense.proofs.is_empty.Statement.{statement}
-use Rattle.dense.proofs.is_empty.Tie as tie
+use Rattle.dense_look.proofs.is_empty.Statement.{statement}
+use Rattle.dense_look.proofs.is_empty.Tie as tie
 
 returns : tie.Need-returns
 unfolding isEmpty
