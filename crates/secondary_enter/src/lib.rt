@@ -36,7 +36,7 @@ pub fn fresh(versions: &mut [u32], values: &[u64]) -> Begun
 pub fn put(h: MapHeader, versions: &[u32], values: &mut [u64], k: u64, x: u64) -> Got
     ensures { λ r. ⌜ (gotOf r, after versions values h) ≡ put (before versions values h) k x ⌝ }
 {
-    match secondary::slot(h, versions, values, k) {
+    match secondary_look::slot(h, versions, values, k) {
         Found::At(i) => {
             let old = values[i];
             values[i] = x;

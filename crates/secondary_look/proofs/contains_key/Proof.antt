@@ -1,11 +1,11 @@
--- `secondary::contains_key` meets its contract: the shape is tested, and the key's slot is looked at. Assumes nothing.
+-- `secondary_look::contains_key` meets its contract: the shape is tested, and the key's slot is looked at. Assumes nothing.
 use native.Mathlib.Omega.{arith}
 use Rattle.lists.proofs.Tests.{refuted, confirmed}
 use Rattle.map.specs.Calls.{contains}
 use Rattle.map.proofs.Shaped.{shaped}
 use borrow.Author.Needs.{needs}
-use Rattle.secondary.proofs.contains_key.Statement.{statement}
-use Rattle.secondary.proofs.contains_key.Tie as tie
+use Rattle.secondary_look.proofs.contains_key.Statement.{statement}
+use Rattle.secondary_look.proofs.contains_key.Tie as tie
 
 returns : tie.Need-returns
 unfolding contains

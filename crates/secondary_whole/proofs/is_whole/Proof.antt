@@ -1,4 +1,4 @@
--- `secondary::is_whole` meets its contract: the slots passed are counted and each is fit. Assumes nothing.
+-- `secondary_whole::is_whole` meets its contract: the slots passed are counted and each is fit. Assumes nothing.
 use mathlib.Core.Path.{sym}
 use mathlib.Core.Logic.{⊎-elim}
 use Prim.Native.Nat.{_-_, _≤_}
@@ -8,8 +8,8 @@ use Rattle.map.specs.Whole.{isWhole}
 use Rattle.map.proofs.Shaped.{shaped}
 use Rattle.map.proofs.Whole.{Scanned, scanned-start, scanned-few, scanned-vacant, scanned-odd, scanned-all, unfit, used}
 use borrow.Author.Needs.{needs}
-use Rattle.secondary.proofs.is_whole.Statement.{statement}
-use Rattle.secondary.proofs.is_whole.Tie as tie
+use Rattle.secondary_whole.proofs.is_whole.Statement.{statement}
+use Rattle.secondary_whole.proofs.is_whole.Tie as tie
 
 abbrev Inv-loop : tie.InvT-loop
 Inv-loop h versions values s n₀ i₀ n i = (i ≤ s) × (Scanned (record { versions = versions; values = values; head = h }) n i)

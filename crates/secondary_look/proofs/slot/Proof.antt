@@ -1,11 +1,11 @@
--- `secondary::slot` meets its contract: the shape is tested, and the key's slot is looked at. Assumes nothing.
+-- `secondary_look::slot` meets its contract: the shape is tested, and the key's slot is looked at. Assumes nothing.
 use native.Mathlib.Omega.{arith}
 use Rattle.lists.proofs.Tests.{refuted, confirmed}
 use Rattle.map.specs.Calls.{slot, slotIn}
 use Rattle.map.proofs.Shaped.{shaped}
 use borrow.Author.Needs.{needs}
-use Rattle.secondary.proofs.slot.Statement.{statement}
-use Rattle.secondary.proofs.slot.Tie as tie
+use Rattle.secondary_look.proofs.slot.Statement.{statement}
+use Rattle.secondary_look.proofs.slot.Tie as tie
 
 returns : tie.Need-returns
 unfolding slot

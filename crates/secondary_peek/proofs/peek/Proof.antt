@@ -1,12 +1,12 @@
--- `secondary::peek` meets its contract: the search's answer is tested against the slot count, and the element is read. Assumes nothing.
+-- `secondary_peek::peek` meets its contract: the search's answer is tested against the slot count, and the element is read. Assumes nothing.
 use native.Mathlib.Omega.{arith}
 use borrow.Author.Tests.{lt-ltb, le-ltb}
 use Rattle.lists.proofs.Tests.{refuted, confirmed}
 use Rattle.map.specs.Calls.{keyAt, met, peek}
 use Rattle.map.proofs.Shaped.{shaped}
 use borrow.Author.Needs.{needs}
-use Rattle.secondary.proofs.peek.Statement.{statement}
-use Rattle.secondary.proofs.peek.Tie as tie
+use Rattle.secondary_peek.proofs.peek.Statement.{statement}
+use Rattle.secondary_peek.proofs.peek.Tie as tie
 
 returns : tie.Need-returns
 unfolding met peek

@@ -1,10 +1,10 @@
--- `secondary::is_there` meets its contract: the index is tested, then the version. Assumes nothing.
+-- `secondary_look::is_there` meets its contract: the index is tested, then the version. Assumes nothing.
 use native.Mathlib.Omega.{arith}
 use Rattle.lists.proofs.Tests.{tests}
 use Rattle.map.specs.Map.{isThere}
 use borrow.Author.Needs.{needs}
-use Rattle.secondary.proofs.is_there.Statement.{statement}
-use Rattle.secondary.proofs.is_there.Tie as tie
+use Rattle.secondary_look.proofs.is_there.Statement.{statement}
+use Rattle.secondary_look.proofs.is_there.Tie as tie
 
 returns : tie.Need-returns
 unfolding isThere

@@ -1,4 +1,4 @@
--- `secondary::ahead` meets its contract: what is left of the search is the whole search. Assumes nothing.
+-- `secondary_peek::ahead` meets its contract: what is left of the search is the whole search. Assumes nothing.
 use mathlib.Core.Path.{_≡_, refl, sym, _∙_}
 use mathlib.Core.Logic.{⊎-elim}
 use Prim.Native.Nat.{_-_}
@@ -6,8 +6,8 @@ use native.Mathlib.Omega.{arith}
 use Rattle.map.specs.Calls.{seek}
 use Rattle.map.proofs.Seek.{seek-occupied, seek-vacant, seek-end, ahead-from}
 use borrow.Author.Needs.{needs}
-use Rattle.secondary.proofs.ahead.Statement.{statement}
-use Rattle.secondary.proofs.ahead.Tie as tie
+use Rattle.secondary_peek.proofs.ahead.Statement.{statement}
+use Rattle.secondary_peek.proofs.ahead.Tie as tie
 
 abbrev Inv-loop : tie.InvT-loop
 Inv-loop versions values place s i₀ i = seek versions (s - i) i ≡ seek versions (s - i₀) i₀

@@ -1,11 +1,11 @@
--- `secondary::lookup` meets its contract: the key's slot is judged, and its value read. Assumes nothing.
+-- `secondary_look::lookup` meets its contract: the key's slot is judged, and its value read. Assumes nothing.
 use native.Mathlib.Omega.{arith}
 use Rattle.map.specs.Calls.{lookup}
 use Rattle.map.proofs.Stands.{stands}
 use Rattle.secondary.proofs.Answers.{found-at}
 use borrow.Author.Needs.{needs}
-use Rattle.secondary.proofs.lookup.Statement.{statement}
-use Rattle.secondary.proofs.lookup.Tie as tie
+use Rattle.secondary_look.proofs.lookup.Statement.{statement}
+use Rattle.secondary_look.proofs.lookup.Tie as tie
 
 mul-t9 : tie.Need-mul-t9
 mul-t9 c = let h = stands _ _ _ (found-at (c .before .before .before .slot .ensures) (c .before .i .given .1)) in omega (arith, h)
