@@ -93,7 +93,7 @@ fn edit(h: MapHeader, versions: &mut [u32], values: &mut [u64], line: Line) -> M
         return clear(h, versions, values);
     }
     if op == b'L' {
-        return begun(h, secondary_enter::fresh(versions, values));
+        return begun(h, secondary_put::fresh(versions, values));
     }
     retain(h, versions, values, line.rule())
 }

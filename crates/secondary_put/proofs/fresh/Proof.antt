@@ -1,11 +1,11 @@
--- `secondary_enter::fresh` meets its contract: the lengths are tested, and slot 0 made vacant. Assumes nothing.
+-- `secondary_put::fresh` meets its contract: the lengths are tested, and slot 0 made vacant. Assumes nothing.
 use native.Mathlib.Omega.{arith}
 use Rattle.lists.proofs.Tests.{refuted, confirmed}
 use Rattle.map.specs.Calls.{fresh}
 use Rattle.map.proofs.Shaped.{fits}
 use borrow.Author.Needs.{needs}
-use Rattle.secondary_enter.proofs.fresh.Statement.{statement}
-use Rattle.secondary_enter.proofs.fresh.Tie as tie
+use Rattle.secondary_put.proofs.fresh.Statement.{statement}
+use Rattle.secondary_put.proofs.fresh.Tie as tie
 
 returns : tie.Need-returns
 unfolding fresh

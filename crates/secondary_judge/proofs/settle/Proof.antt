@@ -1,11 +1,11 @@
--- `secondary_enter::settle` meets its contract: at each return the tests on the way pick the definition's case. Assumes nothing.
+-- `secondary_judge::settle` meets its contract: at each return the tests on the way pick the definition's case. Assumes nothing.
 use mathlib.Core.Path.{sym, _∙_}
 use native.Mathlib.Omega.{arith}
 use Rattle.lists.proofs.Tests.{tests}
 use Rattle.map.specs.Calls.{settled}
 use borrow.Author.Needs.{needs}
-use Rattle.secondary_enter.proofs.settle.Statement.{statement}
-use Rattle.secondary_enter.proofs.settle.Tie as tie
+use Rattle.secondary_judge.proofs.settle.Statement.{statement}
+use Rattle.secondary_judge.proofs.settle.Tie as tie
 
 returns : tie.Need-returns
 unfolding settled

@@ -1,12 +1,12 @@
--- `secondary_enter::put` meets its contract: the key's slot is judged, and its value overwritten. Assumes nothing.
+-- `secondary_put::put` meets its contract: the key's slot is judged, and its value overwritten. Assumes nothing.
 use native.Mathlib.Omega.{arith}
 use Rattle.map.specs.Map.{withValue}
 use Rattle.map.specs.Calls.{put}
 use Rattle.map.proofs.Stands.{stands}
 use Rattle.secondary.proofs.Answers.{found-at}
 use borrow.Author.Needs.{needs}
-use Rattle.secondary_enter.proofs.put.Statement.{statement}
-use Rattle.secondary_enter.proofs.put.Tie as tie
+use Rattle.secondary_put.proofs.put.Statement.{statement}
+use Rattle.secondary_put.proofs.put.Tie as tie
 
 mul-old : tie.Need-mul-old
 mul-old c = omega (arith, stands _ _ _ (found-at (c .before .before .before .slot .ensures) (c .before .i .given .1)))

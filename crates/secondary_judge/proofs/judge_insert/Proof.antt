@@ -1,4 +1,4 @@
--- `secondary_enter::judge_insert` meets its contract: each return is a case of the definition. Assumes nothing.
+-- `secondary_judge::judge_insert` meets its contract: each return is a case of the definition. Assumes nothing.
 use mathlib.Core.Path.{sym, _∙_}
 use native.Mathlib.Omega.{arith}
 use Rattle.lists.proofs.Tests.{refuted, confirmed}
@@ -6,8 +6,8 @@ use Rattle.map.specs.Calls.{fate}
 use Rattle.map.proofs.Shaped.{shaped}
 use Rattle.map.proofs.Fates.{fate-null, fate-zero, fate-far, fate-below, fate-above}
 use borrow.Author.Needs.{needs}
-use Rattle.secondary_enter.proofs.judge_insert.Statement.{statement}
-use Rattle.secondary_enter.proofs.judge_insert.Tie as tie
+use Rattle.secondary_judge.proofs.judge_insert.Statement.{statement}
+use Rattle.secondary_judge.proofs.judge_insert.Tie as tie
 
 returns : tie.Need-returns
 unfolding fate
