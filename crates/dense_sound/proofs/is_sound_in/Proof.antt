@@ -29,10 +29,10 @@ is-sound-in-spec =
     returns
     (λ c. search needs)
     returns-2
-    (λ c κs. search needs)
+    (λ c κs. c .before .before .before .before .before .before .before .before .pre)
     returns-3
-    (λ c κs. search needs)
+    (λ c κs. c .before .before .before .before .before .before .before .before .before .before .pre)
     returns-4
-    (λ c κs. search needs)
-    (λ c κs. search needs)
+    (λ c κs. c .before .before .before .before .before .before .before .before .before .before .before .before .before .pre)
+    (λ c κs. c .before .before .before .before .before .before .before .before .before .before .before .before .before .before .pre)
     returns-5)
