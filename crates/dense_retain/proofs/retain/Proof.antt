@@ -1,12 +1,12 @@
--- `dense_sweep::retain` meets its contract. Assumes nothing.
+-- `dense_retain::retain` meets its contract. Assumes nothing.
 use mathlib.Core.Path.{sym, ap, _∙_}
 use borrow.Author.Needs.{needs}
 use native.Mathlib.Omega.{arith}
 use Rattle.table.specs.Sweeps.{retain}
 use Rattle.dense.specs.Answers.{doneSaid}
 use Rattle.dense_sweep.proofs.Asking.{asked-refused, asked-done, asked-sound}
-use Rattle.dense_sweep.proofs.retain.Statement.{statement}
-use Rattle.dense_sweep.proofs.retain.Tie as tie
+use Rattle.dense_retain.proofs.retain.Statement.{statement}
+use Rattle.dense_retain.proofs.retain.Tie as tie
 
 sift-requires : tie.Need-sift-requires
 sift-requires c κs = asked-sound _ (ap doneSaid (sym (c .before .before .before .before .enum-told .given .1)) ∙ c .before .before .before .before .before .before .asked .ensures) (λ i. omega (arith, c .before .before .before .before .before .before .before .before .before .before .before .before .before .before .slice-known .given i))

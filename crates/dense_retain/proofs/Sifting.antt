@@ -1,5 +1,5 @@
--- The loops of clear and retain, over variables: the table is sound at every turn, and what is left of the sweep gives the same whole. Assumes nothing.
-use mathlib.Core.Path.{_≡_, refl, sym, ap, subst, _∙_}
+-- The loop of retain, over variables: what is left of the walk gives the same whole. Assumes nothing.
+use mathlib.Core.Path.{_≡_, sym, ap, _∙_}
 use mathlib.Core.Bool.{Bool, true, false}
 use Prim.Native.Nat.{ℕ, suc, _+_, _-_, _≤_, _<_}
 use native.Mathlib.Omega.{arith}
@@ -8,69 +8,12 @@ use Rattle.keys.specs.declared.KeyData.{KeyData}
 use Rattle.keys.specs.Keys.{idx, keyOf}
 use Rattle.rules.specs.declared.Rule.{Rule}
 use Rattle.rules.specs.Rules.{keepsOf}
-use Rattle.table.specs.Table.{Table, key, val, last}
-use Rattle.table.specs.Calls.{Out, remove, drain}
+use Rattle.table.specs.Table.{Table, key, val}
+use Rattle.table.specs.Calls.{remove}
 use Rattle.table.specs.Sound.{Sound}
-use Rattle.table.specs.Sweeps.{retaining, clearing}
-use Rattle.table.specs.Frames.{SameLengths}
-use Rattle.table.proofs.Cases.{drain-some}
-use Rattle.table.proofs.Sieve.{dropped, dropped-leaves, dropped-sound, drop-removes}
-
--- ---- one element is dropped from a table on the way
-
--- the table t has become the table u, which is sound
-pub record Swept (t u : Table) : Type 0 where
-  pub sound : Sound u
-  pub lengths : SameLengths t u
-
-pub swept-none : (t : Table) → Sound t → Swept t t
-swept-none t a = record { sound = a; lengths = (refl, refl, refl, refl) }
-
-module _ (t u w : Table) (a : Swept t u) (p : ℕ) (h : p < u .head .n) (e : w ≡ dropped u p) where
-  swept-count : suc (w .head .n) ≡ u .head .n
-  swept-count = ap (λ (z : Table). suc (z .head .n)) e ∙ dropped-leaves u (a .sound) p h .count
-
-  swept-more : Swept t w
-  swept-more =
-      let l = dropped-leaves u (a .sound) p h .lengths in
-      let b = a .lengths in
-      subst (Swept t) (sym e) (record {
-        sound = dropped-sound u (a .sound) p h;
-        lengths = (l .0 ∙ b .0, l .1 ∙ b .1, l .2 ∙ b .2, l .3 ∙ b .3);
-      })
-
--- ---- clear
-
-pub record Draining (t u : Table) : Type 0 where
-  pub swept : Swept t u
-  pub rest : clearing (u .head .n) u ≡ clearing (t .head .n) t
-
-pub draining-begins : (t : Table) → Sound t → Draining t t
-draining-begins t a = record { swept = swept-none t a; rest = refl }
-
-module _ (t u w : Table) (a : Draining t u) (h : 0 < u .head .n) (e : w ≡ drain u .1) where
-  drained : w ≡ dropped u (last u)
-  drained = e ∙ ap (λ (o : Out). o .1) (drain-some u (a .swept .sound) h)
-
-  falls : suc (w .head .n) ≡ u .head .n
-  falls = swept-count t u w (a .swept) (last u) (omega arith) drained
-
-  pub draining-less : w .head .n < u .head .n
-  draining-less = omega (arith, falls)
-
-  pub draining-goes : Draining t w
-  unfolding clearing
-  draining-goes =
-      record {
-        swept = swept-more t u w (a .swept) (last u) (omega arith) drained;
-        rest = ap (clearing (w .head .n)) e ∙ ap (λ (m : ℕ). clearing m u) falls ∙ a .rest;
-      }
-
-pub draining-ends : (t u : Table) → Draining t u → u .head .n ≤ 0 → u ≡ clearing (t .head .n) t
-unfolding clearing
-draining-ends t u a h = let z : 0 ≡ u .head .n = omega arith in ap (λ (m : ℕ). clearing m u) z ∙ a .rest
-
--- ---- retain
+use Rattle.table.specs.Sweeps.{retaining}
+use Rattle.table.proofs.Sieve.{drop-removes}
+use Rattle.dense_sweep.proofs.Swept.{Swept, swept-none, swept-count, swept-more}
 
 -- what the rule says of a key's element, from what the code was told
 pub rule-told : (rule : Rule) {d : KeyData} (k x : ℕ) {r b : Bool} → d ≡ keyOf k → r ≡ keepsOf rule (d .idx) x → r ≡ b → keepsOf rule (idx k) x ≡ b

@@ -1,12 +1,12 @@
--- `dense_sweep::drain_all` meets its contract. Assumes nothing.
+-- `dense_clear::drain_all` meets its contract. Assumes nothing.
 use mathlib.Core.Path.{ap}
 use borrow.Author.Needs.{needs}
 use native.Mathlib.Omega.{arith}
 use Rattle.table.specs.Calls.{Out}
 use Rattle.dense.specs.Lent.{table}
-use Rattle.dense_sweep.proofs.Sweeping.{Draining, draining-begins, draining-less, draining-goes, draining-ends}
-use Rattle.dense_sweep.proofs.drain_all.Statement.{statement}
-use Rattle.dense_sweep.proofs.drain_all.Tie as tie
+use Rattle.dense_clear.proofs.Draining.{Draining, draining-begins, draining-less, draining-goes, draining-ends}
+use Rattle.dense_clear.proofs.drain_all.Statement.{statement}
+use Rattle.dense_clear.proofs.drain_all.Tie as tie
 
 abbrev Inv-loop : tie.InvT-loop
 Inv-loop versions₀ links₀ keys values g₀ versions links g = Draining (table versions₀ links₀ keys values g₀) (table versions links keys values g)

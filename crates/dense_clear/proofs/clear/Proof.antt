@@ -1,12 +1,12 @@
--- `dense_sweep::clear` meets its contract. Assumes nothing.
+-- `dense_clear::clear` meets its contract. Assumes nothing.
 use mathlib.Core.Path.{sym, ap, _∙_}
 use borrow.Author.Needs.{needs}
 use native.Mathlib.Omega.{arith}
 use Rattle.table.specs.Sweeps.{clear}
 use Rattle.dense.specs.Answers.{doneSaid}
 use Rattle.dense_sweep.proofs.Asking.{asked-refused, asked-done, asked-sound}
-use Rattle.dense_sweep.proofs.clear.Statement.{statement}
-use Rattle.dense_sweep.proofs.clear.Tie as tie
+use Rattle.dense_clear.proofs.clear.Statement.{statement}
+use Rattle.dense_clear.proofs.clear.Tie as tie
 
 drain-all-requires : tie.Need-drain-all-requires
 drain-all-requires c κs = asked-sound _ (ap doneSaid (sym (c .before .before .enum-told .given .1)) ∙ c .before .before .before .before .asked .ensures) (λ i. omega (arith, c .before .before .before .before .before .before .before .before .before .before .slice-known .given i))

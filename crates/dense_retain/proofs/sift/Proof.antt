@@ -1,4 +1,4 @@
--- `dense_sweep::sift` meets its contract. Assumes nothing.
+-- `dense_retain::sift` meets its contract. Assumes nothing.
 use mathlib.Core.Path.{ap}
 use Prim.Native.Nat.{_-_}
 use borrow.Author.Needs.{needs}
@@ -7,9 +7,9 @@ use Rattle.rules.specs.Rules.{keepsOf}
 use Rattle.table.specs.Calls.{Out}
 use Rattle.table.proofs.Shape.{shape}
 use Rattle.dense.specs.Lent.{table}
-use Rattle.dense_sweep.proofs.Sweeping.{Sifting, sifting-begins, sifting-keeps, sifting-less, sifting-drops, sifting-ends, rule-told}
-use Rattle.dense_sweep.proofs.sift.Statement.{statement}
-use Rattle.dense_sweep.proofs.sift.Tie as tie
+use Rattle.dense_retain.proofs.Sifting.{Sifting, sifting-begins, sifting-keeps, sifting-less, sifting-drops, sifting-ends, rule-told}
+use Rattle.dense_retain.proofs.sift.Statement.{statement}
+use Rattle.dense_retain.proofs.sift.Tie as tie
 
 abbrev Inv-loop : tie.InvT-loop
 Inv-loop versions₀ links₀ keys₀ values₀ rule g₀ p₀ versions links keys values g p =
