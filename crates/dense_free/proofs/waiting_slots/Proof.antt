@@ -1,4 +1,4 @@
--- `dense_sound::waiting_slots` meets its contract. The loop's invariant: m of the slots below i have to be on the free list. Assumes nothing.
+-- `dense_free::waiting_slots` meets its contract. The loop's invariant: m of the slots below i have to be on the free list. Assumes nothing.
 use borrow.Author.Needs.{needs}
 use mathlib.Core.Path.{sym, _∙_}
 use mathlib.Core.Logic.{⊎-elim}
@@ -6,8 +6,8 @@ use Prim.Native.Nat.{_-_, _≤_}
 use Rattle.lists.proofs.Count.{Tally, tally-none, tally-yes, tally-no, tally-all}
 use Rattle.table.specs.Sound.{isWaiting}
 use Rattle.dense.specs.Lent.{table}
-use Rattle.dense_sound.proofs.waiting_slots.Statement.{statement}
-use Rattle.dense_sound.proofs.waiting_slots.Tie as tie
+use Rattle.dense_free.proofs.waiting_slots.Statement.{statement}
+use Rattle.dense_free.proofs.waiting_slots.Tie as tie
 
 abbrev Inv-loop : tie.InvT-loop
 Inv-loop h versions links keys values m₀ i₀ m i = (i ≤ h .s) × Tally (isWaiting (table versions links keys values h)) i m

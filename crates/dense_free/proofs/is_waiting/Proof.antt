@@ -1,9 +1,9 @@
--- `dense_sound::is_waiting` meets its contract: a return for each test. Assumes nothing.
+-- `dense_free::is_waiting` meets its contract: a return for each test. Assumes nothing.
 use borrow.Author.Needs.{needs}
 use Rattle.keys.proofs.Versions.{told-odd, told-even}
 use Rattle.table.proofs.Checking.{waiting-low, waiting-odd, waiting-link}
-use Rattle.dense_sound.proofs.is_waiting.Statement.{statement}
-use Rattle.dense_sound.proofs.is_waiting.Tie as tie
+use Rattle.dense_free.proofs.is_waiting.Statement.{statement}
+use Rattle.dense_free.proofs.is_waiting.Tie as tie
 
 returns : tie.Need-returns
 returns c = waiting-low _ _ (c .if1 .taken)

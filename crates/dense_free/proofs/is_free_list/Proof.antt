@@ -1,4 +1,4 @@
--- `dense_sound::is_free_list` meets its contract. The loop's invariant: what is ahead of slot g, after met steps, is what was ahead at first.
+-- `dense_free::is_free_list` meets its contract. The loop's invariant: what is ahead of slot g, after met steps, is what was ahead at first.
 -- The measure is what is left of s steps. Assumes nothing.
 use borrow.Author.Needs.{needs}
 use mathlib.Core.Path.{_≡_, _∙_}
@@ -10,8 +10,8 @@ use Rattle.keys.proofs.Versions.{told-odd, told-even}
 use Rattle.table.specs.Sound.{leads, steps}
 use Rattle.table.proofs.Checking.{ahead, walk-start, walk-round, walk-low, walk-high, walk-odd, walk-turn, walk-end}
 use Rattle.dense.specs.Lent.{table}
-use Rattle.dense_sound.proofs.is_free_list.Statement.{statement}
-use Rattle.dense_sound.proofs.is_free_list.Tie as tie
+use Rattle.dense_free.proofs.is_free_list.Statement.{statement}
+use Rattle.dense_free.proofs.is_free_list.Tie as tie
 
 abbrev Inv-loop : tie.InvT-loop
 Inv-loop h versions links keys values m met₀ g₀ met g =
