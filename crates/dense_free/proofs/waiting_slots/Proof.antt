@@ -37,7 +37,7 @@ waiting-slots-spec =
     Inv-loop
     μ-loop
     loop-holds
-    (λ c κs. search needs)
+    (λ c κs. (c .before .before .before .before .before .before .before .pre, c .if1 .taken))
     (λ c. search needs)
     (λ c. search needs)
     (λ c. search needs)
