@@ -60,7 +60,7 @@ pub fn retain(
 ) -> Made
     ensures { λ r. ⌜ outcome r versions links keys values ≡ tells done (retain (before versions links keys values h) rule) ⌝ }
 {
-    let retained = dense_sweep::retain(h, versions, links, keys, values, rule);
+    let retained = dense_retain::retain(h, versions, links, keys, values, rule);
     let header = retained.header;
     let answer = retained.answer;
     Made {
@@ -78,7 +78,7 @@ pub fn clear(
 ) -> Made
     ensures { λ r. ⌜ outcome r versions links keys values ≡ tells done (clear (before versions links keys values h)) ⌝ }
 {
-    let cleared = dense_sweep::clear(h, versions, links, keys, values);
+    let cleared = dense_clear::clear(h, versions, links, keys, values);
     let header = cleared.header;
     let answer = cleared.answer;
     Made {

@@ -1,7 +1,8 @@
 // What a call on a secondary map answered, as one kind and up to three numbers.
 ghost use mathlib.Core.Path.{_≡_};
 ghost use Rattle.secondary.specs.Answers.{lengthOf, truthOf, foundOf, gotOf, stepOf};
-ghost use Rattle.secondary_enter.specs.Outcomes.{begunOf, insertedOf};
+ghost use Rattle.secondary_put.specs.Outcomes.{begunOf};
+ghost use Rattle.secondary_enter.specs.Outcomes.{insertedOf};
 ghost use Rattle.secondary_sweep.specs.Outcomes.{sweptOf};
 ghost use Rattle.answers.specs.Kinds.{done, ended, places};
 ghost use Rattle.map_answers.specs.Listed.{listed, listedSlot, headed, listedHeader};
@@ -22,8 +23,8 @@ use secondary::Got;
 use secondary::Length;
 use secondary::Step;
 use secondary::Truth;
-use secondary_enter::Begun;
 use secondary_enter::Inserted;
+use secondary_put::Begun;
 use secondary_sweep::Swept;
 
 pub fn header(h: MapHeader) -> Answer

@@ -7,9 +7,9 @@ use Rattle.refusal.specs.Refusals.{numberOf}
 use Rattle.map.specs.declared.MapHeader.{MapHeader}
 use Rattle.map.specs.Map.{Map}
 use Rattle.map.specs.Calls.{Said, Out}
-use Rattle.secondary_enter.specs.declared.Begun.{Begun}
-use Rattle.secondary_enter.specs.declared.Begun.the-variants.{Header, Refused}
-use Rattle.secondary_enter.specs.Outcomes.{begunOf}
+use Rattle.secondary_put.specs.declared.Begun.{Begun}
+use Rattle.secondary_put.specs.declared.Begun.the-variants.{Header, Refused}
+use Rattle.secondary_put.specs.Outcomes.{begunOf}
 use Rattle.answers.specs.declared.Answer.{Answer}
 use Rattle.answers.specs.Kinds.{refusal}
 use Rattle.map_answers.specs.Listed.{listed, headed}

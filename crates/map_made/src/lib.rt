@@ -4,13 +4,13 @@ ghost use lib.ListN.{length};
 ghost use Rattle.secondary.specs.Answers.{before, after};
 ghost use Rattle.map.specs.Calls.{put, insert, remove, drain};
 ghost use Rattle.map.specs.Sweeps.{retain, clear, disjoint};
-ghost use Rattle.secondary_enter.specs.Outcomes.{begunOf};
+ghost use Rattle.secondary_put.specs.Outcomes.{begunOf};
 ghost use Rattle.answers.specs.Kinds.{done, ended, places};
 ghost use Rattle.map_made.specs.Outcomes.{outcome, tells, begun, leaves, tellsSlots};
 use answers::Answer;
 use map::MapHeader;
 use rules::Rule;
-use secondary_enter::Begun;
+use secondary_put::Begun;
 
 pub struct Made {
     pub header: MapHeader,
@@ -36,7 +36,7 @@ pub fn begun(h: MapHeader, start: Begun) -> Made
 pub fn put(h: MapHeader, versions: &[u32], values: &mut [u64], k: u64, x: u64) -> Made
     ensures { λ r. ⌜ outcome r versions values ≡ tells done (put (before versions values h) k x) ⌝ }
 {
-    let old = secondary_enter::put(h, versions, values, k, x);
+    let old = secondary_put::put(h, versions, values, k, x);
     Made {
         header: h,
         answer: map_answers::value(old),

@@ -27,7 +27,7 @@ fn bit(yes: bool) -> u64 {
 
 // Everything that a map holds, in one number: whether it is whole, the header, the arrays to their ends, and the output.
 fn state(h: MapHeader, versions: &[u32], values: &[u64], places: &[u32]) -> u64 {
-    let whole = bit(secondary::is_whole(h, versions, values));
+    let whole = bit(secondary_whole::is_whole(h, versions, values));
     let header = replay::mix(
         replay::mix(replay::mix(0, whole), h.s as u64),
         h.count as u64,
@@ -38,12 +38,12 @@ fn state(h: MapHeader, versions: &[u32], values: &[u64], places: &[u32]) -> u64 
 
 fn look_at(h: MapHeader, versions: &[u32], values: &[u64], op: u8, k: u64) -> Answer {
     if op == b'g' {
-        return value(secondary::lookup(h, versions, values, k));
+        return value(secondary_look::lookup(h, versions, values, k));
     }
     if op == b'c' {
-        return tested(secondary::contains_key(h, versions, values, k));
+        return tested(secondary_look::contains_key(h, versions, values, k));
     }
-    slotted(secondary::slot(h, versions, values, k))
+    slotted(secondary_look::slot(h, versions, values, k))
 }
 
 fn look(
@@ -61,7 +61,7 @@ fn look(
         return tested(secondary::is_empty(h, versions, values));
     }
     if op == b'y' {
-        return stepped(secondary::peek(h, versions, values, narrow(place)));
+        return stepped(secondary_peek::peek(h, versions, values, narrow(place)));
     }
     Answer::of(DIGEST, state(h, versions, values, places))
 }
@@ -93,7 +93,7 @@ fn edit(h: MapHeader, versions: &mut [u32], values: &mut [u64], line: Line) -> M
         return clear(h, versions, values);
     }
     if op == b'L' {
-        return begun(h, secondary_enter::fresh(versions, values));
+        return begun(h, secondary_put::fresh(versions, values));
     }
     retain(h, versions, values, line.rule())
 }

@@ -1,14 +1,9 @@
 // The secondary map: values beside the keys of a table, in two lent arrays of one length. A slot of version 0 is vacant.
-// This crate has the calls that store nothing.
+// This crate has what the calls answer, the shape that each of them asks for first, and the count.
 ghost use mathlib.Core.Path.{_≡_};
-ghost use Prim.Native.Nat.{_≤_};
-ghost use lib.ListN.{length};
-ghost use Rattle.refusal.specs.Refusals.{numberOf};
-ghost use Rattle.map.specs.Map.{lengthsFit, hasShape, isThere, absent};
-ghost use Rattle.map.specs.Whole.{isWhole};
-ghost use Rattle.map.specs.Calls.{len, isEmpty, contains, slot, lookup, ahead, peek};
-ghost use Rattle.secondary.specs.Answers.{before, after, lengthOf, truthOf, foundOf, gotOf, stepOf};
-use keys::KeyData;
+ghost use Rattle.map.specs.Map.{lengthsFit, hasShape};
+ghost use Rattle.map.specs.Calls.{len, isEmpty};
+ghost use Rattle.secondary.specs.Answers.{before, lengthOf, truthOf};
 use map::MapHeader;
 use refusal::Refusal;
 
@@ -74,7 +69,7 @@ pub fn shape(h: MapHeader, versions: &[u32], values: &[u64]) -> bool
     s <= versions.len()
 }
 
-// ---- calls that only look
+// ---- the count
 
 pub fn len(h: MapHeader, versions: &[u32], values: &[u64]) -> Length
     ensures { λ r. ⌜ lengthOf r ≡ len (before versions values h) ⌝ }
@@ -92,121 +87,4 @@ pub fn is_empty(h: MapHeader, versions: &[u32], values: &[u64]) -> Truth
         return Truth::Refused(Refusal::Shape);
     }
     Truth::Is(h.count == 0)
-}
-
-fn is_there(h: MapHeader, versions: &[u32], values: &[u64], key: KeyData) -> bool
-    requires { ⌜ h .s ≤ length (now versions) ⌝ }
-    ensures { λ r. ⌜ r ≡ isThere (before versions values h) (key .idx) (key .version) ⌝ }
-{
-    if h.s <= key.idx {
-        return false;
-    }
-    let i = key.idx as usize;
-    versions[i] == key.version
-}
-
-pub fn contains_key(h: MapHeader, versions: &[u32], values: &[u64], k: u64) -> Truth
-    ensures { λ r. ⌜ truthOf r ≡ contains (before versions values h) k ⌝ }
-{
-    if !shape(h, versions, values) {
-        return Truth::Refused(Refusal::Shape);
-    }
-    Truth::Is(is_there(h, versions, values, KeyData::from_ffi(k)))
-}
-
-// The refusal of a key that is not there. It uses nothing that it is given, as its definition says.
-fn absent(_h: MapHeader, _versions: &[u32], _values: &[u64], _key: KeyData) -> Refusal
-    ensures { λ r. ⌜ numberOf r ≡ absent (before «_versions» «_values» «_h») («_key» .idx) («_key» .version) ⌝ }
-{
-    Refusal::Dead
-}
-
-// The slot of a key that is there.
-pub fn slot(h: MapHeader, versions: &[u32], values: &[u64], k: u64) -> Found
-    ensures { λ r. ⌜ foundOf r ≡ slot (before versions values h) k ⌝ }
-{
-    if !shape(h, versions, values) {
-        return Found::Refused(Refusal::Shape);
-    }
-    let key = KeyData::from_ffi(k);
-    if !is_there(h, versions, values, key) {
-        return Found::Refused(absent(h, versions, values, key));
-    }
-    Found::At(key.idx as usize)
-}
-
-pub fn lookup(h: MapHeader, versions: &[u32], values: &[u64], k: u64) -> Got
-    ensures { λ r. ⌜ (gotOf r, after versions values h) ≡ lookup (before versions values h) k ⌝ }
-{
-    match slot(h, versions, values, k) {
-        Found::At(i) => Got::Value(values[i]),
-        Found::Refused(r) => Got::Refused(r),
-    }
-}
-
-// ---- the step that only looks
-
-// The lowest occupied slot from a place on. Slot 0 is passed over.
-fn ahead(h: MapHeader, versions: &[u32], values: &[u64], place: u32) -> usize
-    requires { ⌜ h .s ≤ length (now versions) ⌝ }
-    ensures { λ r. ⌜ r ≡ ahead (before versions values h) place ⌝ }
-{
-    let s = h.s as usize;
-    let mut i = place as usize;
-    if i < 1 {
-        i = 1;
-    }
-    while i < s {
-        if versions[i] != 0 {
-            return i;
-        }
-        i += 1;
-    }
-    i
-}
-
-pub fn peek(h: MapHeader, versions: &[u32], values: &[u64], place: u32) -> Step
-    ensures { λ r. ⌜ stepOf r ≡ peek (before versions values h) place ⌝ }
-{
-    if !shape(h, versions, values) {
-        return Step::Refused(Refusal::Shape);
-    }
-    let i = ahead(h, versions, values, place);
-    if h.s as usize <= i {
-        return Step::Done;
-    }
-    let index = i as u32;
-    Step::Element {
-        key: KeyData::new(index, versions[i]).as_ffi(),
-        value: values[i],
-        next: index + 1,
-    }
-}
-
-// ---- the whole check
-
-// Whether slot 0 is vacant, every version is 0 or odd, and the count is true.
-pub fn is_whole(h: MapHeader, versions: &[u32], values: &[u64]) -> bool
-    ensures { λ r. ⌜ r ≡ isWhole (before versions values h) ⌝ }
-{
-    if !shape(h, versions, values) {
-        return false;
-    }
-    if versions[0] != 0 {
-        return false;
-    }
-    let s = h.s as usize;
-    let mut n: u32 = 0;
-    let mut i = 0;
-    while i < s {
-        let v = versions[i];
-        if v != 0 {
-            if !keys::is_odd(v) {
-                return false;
-            }
-            n += 1;
-        }
-        i += 1;
-    }
-    n == h.count
 }

@@ -11,8 +11,8 @@ use lines::line_end;
 use map::MapHeader;
 use map_made::Made;
 use map_made::insert;
-use secondary::lookup;
-use secondary_enter::fresh;
+use secondary_look::lookup;
+use secondary_put::fresh;
 
 // The number of a key: the version's lowest bit is as given.
 fn key(index: u32, version: u32) -> u64 {

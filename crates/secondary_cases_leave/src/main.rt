@@ -16,9 +16,9 @@ use map_made::put;
 use map_made::remove;
 use map_made::retain;
 use rules::Rule;
-use secondary::is_whole;
-use secondary::lookup;
-use secondary::peek;
+use secondary_look::lookup;
+use secondary_peek::peek;
+use secondary_whole::is_whole;
 
 // The number of a key: the version's lowest bit is as given.
 fn key(index: u32, version: u32) -> u64 {

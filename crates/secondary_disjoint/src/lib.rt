@@ -34,7 +34,7 @@ fn mark(h: MapHeader, versions: &mut [u32], values: &[u64], keys: &[u64]) -> Mar
 {
     let mut n = 0;
     while n < keys.len() {
-        match secondary::slot(h, versions, values, keys[n]) {
+        match secondary_look::slot(h, versions, values, keys[n]) {
             Found::At(i) => {
                 versions[i] = MARK;
             }

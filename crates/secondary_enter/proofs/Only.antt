@@ -1,30 +1,17 @@
--- No second outcome of fresh, put and insert: two outcomes that meet one contract are the same answer, header and arrays.
--- Assumes nothing.
+-- No second outcome of insert: two outcomes that meet one contract are the same answer, header and arrays. Assumes nothing.
 use mathlib.Core.Path.{_≡_, sym, ap, ap₂, _∙_}
 use mathlib.Core.List.{List}
 use Prim.Native.Nat.{ℕ}
 use Rattle.refusal.specs.Refusals.{numberOf}
 use Rattle.refusal.proofs.Numbers.{number-one-to-one}
 use Rattle.map.specs.declared.MapHeader.{MapHeader}
-use Rattle.secondary.specs.declared.Got.{Got}
 use Rattle.map.specs.Map.{Map}
-use Rattle.map.specs.Calls.{Out, Begun as Begins}
-use Rattle.secondary.specs.Answers.{gotOf}
-use Rattle.secondary.proofs.Only.{got-one-to-one, out-only, mapOf}
-use Rattle.secondary_enter.specs.declared.Begun.{Begun}
-use Rattle.secondary_enter.specs.declared.Begun.the-variants as Begun·
+use Rattle.map.specs.Calls.{Out}
+use Rattle.secondary.proofs.Only.{out-only, mapOf}
 use Rattle.secondary_enter.specs.declared.Inserted.{Inserted}
 use Rattle.secondary_enter.specs.declared.Inserted.the-variants as Inserted·
 use Rattle.secondary_enter.specs.declared.Insertion.{Insertion}
-use Rattle.secondary_enter.specs.Outcomes.{begunOf, insertedOf}
-
--- ---- the readings
-
-pub begun-one-to-one : (a b : Begun) → begunOf a ≡ begunOf b → a ≡ b
-begun-one-to-one (Begun·.Header h) (Begun·.Header g) e = cc
-begun-one-to-one (Begun·.Header h) (Begun·.Refused r) e = cc
-begun-one-to-one (Begun·.Refused r) (Begun·.Header g) e = cc
-begun-one-to-one (Begun·.Refused r) (Begun·.Refused q) e = let n : numberOf r ≡ numberOf q = cc in ap Begun·.Refused (number-one-to-one r q n)
+use Rattle.secondary_enter.specs.Outcomes.{insertedOf}
 
 pub inserted-one-to-one : (a b : Inserted) → insertedOf a ≡ insertedOf b → a ≡ b
 inserted-one-to-one Inserted·.Ignored Inserted·.Ignored e = cc
@@ -53,25 +40,11 @@ inserted-one-to-one (Inserted·.Refused r) Inserted·.Kept e = cc
 inserted-one-to-one (Inserted·.Refused r) Inserted·.Stored e = cc
 inserted-one-to-one (Inserted·.Refused r) (Inserted·.Refused q) e = let n : numberOf r ≡ numberOf q = cc in ap Inserted·.Refused (number-one-to-one r q n)
 
--- ---- the outcomes
-
-pub fresh-only : (r q : Begun) (vs us : List ℕ) (o : Begins × List ℕ) → _≡_ {A = Begins × List ℕ} (begunOf r, vs) o → _≡_ {A = Begins × List ℕ} (begunOf q, us) o
-    → (r ≡ q) × (vs ≡ us)
-fresh-only r q vs us o e f =
-    let p : _≡_ {A = Begins × List ℕ} (begunOf r, vs) (begunOf q, us) = e ∙ sym f in
-    (begun-one-to-one r q (ap (λ (z : Begins × List ℕ). z .0) p), ap (λ (z : Begins × List ℕ). z .1) p)
-
-module _ (vs us xs ys : List ℕ) (o : Out) where
-  pub put-only : (r q : Got) (h : MapHeader) → _≡_ {A = Out} (gotOf r, mapOf vs xs h) o → _≡_ {A = Out} (gotOf q, mapOf us ys h) o → (r ≡ q) × (vs ≡ us) × (xs ≡ ys)
-  put-only r q h e f =
-      let p = out-only gotOf got-one-to-one r q _ _ o e f in
-      (p .0, ap (λ (m : Map). m .versions) (p .1), ap (λ (m : Map). m .values) (p .1))
-
-  pub insert-only : (r q : Insertion) → _≡_ {A = Out} (insertedOf (r .answer), mapOf vs xs (r .header)) o → _≡_ {A = Out} (insertedOf (q .answer), mapOf us ys (q .header)) o
-      → (r ≡ q) × (vs ≡ us) × (xs ≡ ys)
-  insert-only r q e f =
-      let p = out-only insertedOf inserted-one-to-one (r .answer) (q .answer) _ _ o e f in (
-        ap₂ (λ (h : MapHeader) (a : Inserted). record { header = h; answer = a }) (ap (λ (m : Map). m .head) (p .1)) (p .0),
-        ap (λ (m : Map). m .versions) (p .1),
-        ap (λ (m : Map). m .values) (p .1),
-      )
+pub insert-only : (vs us xs ys : List ℕ) (o : Out) (r q : Insertion) → _≡_ {A = Out} (insertedOf (r .answer), mapOf vs xs (r .header)) o → _≡_ {A = Out} (insertedOf (q .answer), mapOf us ys (q .header)) o
+    → (r ≡ q) × (vs ≡ us) × (xs ≡ ys)
+insert-only vs us xs ys o r q e f =
+    let p = out-only insertedOf inserted-one-to-one (r .answer) (q .answer) _ _ o e f in (
+      ap₂ (λ (h : MapHeader) (a : Inserted). record { header = h; answer = a }) (ap (λ (m : Map). m .head) (p .1)) (p .0),
+      ap (λ (m : Map). m .versions) (p .1),
+      ap (λ (m : Map). m .values) (p .1),
+    )

@@ -9,8 +9,8 @@ use Rattle.map.specs.Map.{Map, grown}
 use Rattle.map.specs.Calls.{fate, fated, insert}
 use Rattle.map.proofs.Shaped.{Shaped}
 use Rattle.map.proofs.Ways.{insert-by, insert-old, read-some, insert-key, settles, comes, compares, slot-there}
-use Rattle.secondary_enter.specs.declared.Fate.{Fate}
-use Rattle.secondary_enter.specs.Outcomes.{fateOf}
+use Rattle.secondary_judge.specs.declared.Fate.{Fate}
+use Rattle.secondary_judge.specs.Fates.{fateOf}
 
 module _ (m : Map) (k : ℕ) (key : KeyData) (r : Fate) (q : key ≡ keyOf k) (e : fateOf r ≡ fate m key) (v : Fate) (h : r ≡ v) where
   fate-told : fate m key ≡ fateOf v

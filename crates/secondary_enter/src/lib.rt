@@ -1,61 +1,17 @@
-// The secondary map's calls that begin a map or bring a value in. Each judges first, by a function on shared slices, and stores only what it has accepted.
+// The secondary map's insert: what it comes to is judged first, and only what is accepted is stored.
 ghost use mathlib.Core.Path.{_≡_};
 ghost use Prim.Native.Nat.{_≤_, _<_};
 ghost use lib.ListN.{length};
 ghost use Rattle.keys.specs.Keys.{far};
-ghost use Rattle.map.specs.Map.{older, grown, stored};
-ghost use Rattle.map.specs.Calls.{fresh, put, settled, fate, insert};
-ghost use Rattle.secondary.specs.Answers.{before, after, gotOf};
-ghost use Rattle.secondary_enter.specs.Outcomes.{begunOf, fateOf, insertionOf};
+ghost use Rattle.map.specs.Map.{grown, stored};
+ghost use Rattle.map.specs.Calls.{insert};
+ghost use Rattle.secondary.specs.Answers.{before, after};
+ghost use Rattle.secondary_enter.specs.Outcomes.{insertionOf};
 use keys::KeyData;
 use map::MapHeader;
 use refusal::Refusal;
-use secondary::Found;
-use secondary::Got;
-
-// ---- fresh
-
-pub enum Begun {
-    Header(MapHeader),
-    Refused(Refusal),
-}
-
-pub fn fresh(versions: &mut [u32], values: &[u64]) -> Begun
-    ensures { λ r. ⌜ (begunOf r, now (versions .exit)) ≡ fresh (now (versions .entry)) (now (values .entry)) ⌝ }
-{
-    if !secondary::lengths_fit(versions, values) {
-        return Begun::Refused(Refusal::Shape);
-    }
-    versions[0] = 0;
-    Begun::Header(MapHeader { s: 1, count: 0 })
-}
-
-// ---- put
-
-// Overwrites the value of a key that is there, and answers the old one.
-pub fn put(h: MapHeader, versions: &[u32], values: &mut [u64], k: u64, x: u64) -> Got
-    ensures { λ r. ⌜ (gotOf r, after versions values h) ≡ put (before versions values h) k x ⌝ }
-{
-    match secondary::slot(h, versions, values, k) {
-        Found::At(i) => {
-            let old = values[i];
-            values[i] = x;
-            Got::Value(old)
-        }
-        Found::Refused(r) => Got::Refused(r),
-    }
-}
-
-// ---- insert
-
-// What an insert comes to. Storing leaves so many elements.
-enum Fate {
-    Ignores,
-    Replaces,
-    Keeps,
-    Stores(u32),
-    Refused(Refusal),
-}
+use secondary_judge::Fate;
+use secondary_judge::judge_insert;
 
 pub enum Inserted {
     // The key is null.
@@ -71,56 +27,6 @@ pub enum Inserted {
 pub struct Insertion {
     pub header: MapHeader,
     pub answer: Inserted,
-}
-
-// Whether version a is older than version b: as plain numbers.
-fn is_older_version(a: u32, b: u32) -> bool
-    ensures { λ r. ⌜ r ≡ older a b ⌝ }
-{
-    a < b
-}
-
-// A key's version against the version of its slot, in a map of so many slots and elements.
-fn settle(slots: u32, elements: u32, there: u32, version: u32) -> Fate
-    requires { ⌜ 1 ≤ slots ⌝ }
-    ensures { λ r. ⌜ fateOf r ≡ settled slots elements there version ⌝ }
-{
-    if there == version {
-        return Fate::Replaces;
-    }
-    if there == 0 {
-        if slots - 1 <= elements {
-            return Fate::Refused(Refusal::Damaged);
-        }
-        return Fate::Stores(elements + 1);
-    }
-    if is_older_version(version, there) {
-        return Fate::Keeps;
-    }
-    Fate::Stores(elements)
-}
-
-// A slot that is yet to be made is vacant, whatever stands there.
-fn judge_insert(h: MapHeader, versions: &[u32], values: &[u64], key: KeyData) -> Fate
-    ensures { λ r. ⌜ fateOf r ≡ fate (before versions values h) key ⌝ }
-{
-    if !secondary::shape(h, versions, values) {
-        return Fate::Refused(Refusal::Shape);
-    }
-    if key.is_null() {
-        return Fate::Ignores;
-    }
-    if key.idx == 0 {
-        return Fate::Refused(Refusal::IndexZero);
-    }
-    let i = key.idx as usize;
-    if versions.len() <= i {
-        return Fate::Refused(Refusal::Beyond);
-    }
-    if key.idx < h.s {
-        return settle(h.s, h.count, versions[i], key.version);
-    }
-    settle(key.idx + 1, h.count, 0, key.version)
 }
 
 // Makes the slots up to an index, each vacant. Their values stay.

@@ -23,7 +23,7 @@ pub struct Removal {
 fn leaving(h: MapHeader, versions: &[u32], values: &[u64], k: u64) -> Found
     ensures { λ r. ⌜ foundOf r ≡ leaving (before versions values h) k ⌝ }
 {
-    match secondary::slot(h, versions, values, k) {
+    match secondary_look::slot(h, versions, values, k) {
         Found::At(i) => {
             if h.count == 0 {
                 return Found::Refused(Refusal::Damaged);
@@ -76,7 +76,7 @@ pub struct Drained {
 pub fn drain_step(h: MapHeader, versions: &mut [u32], values: &[u64], place: u32) -> Drained
     ensures { λ r. ⌜ drainedOf r versions values ≡ drain (before versions values h) place ⌝ }
 {
-    match secondary::peek(h, versions, values, place) {
+    match secondary_peek::peek(h, versions, values, place) {
         Step::Element { key, value, next } => {
             if h.count == 0 {
                 return Drained {

@@ -64,7 +64,7 @@ pub fn retain(h: MapHeader, versions: &mut [u32], values: &[u64], rule: Rule) ->
             answer: Swept::Refused(Refusal::Shape),
         };
     }
-    if !secondary::is_whole(h, versions, values) {
+    if !secondary_whole::is_whole(h, versions, values) {
         return Sweep {
             header: h,
             answer: Swept::Refused(Refusal::Damaged),
@@ -112,7 +112,7 @@ pub fn clear(h: MapHeader, versions: &mut [u32], values: &[u64]) -> Sweep
             answer: Swept::Refused(Refusal::Shape),
         };
     }
-    if !secondary::is_whole(h, versions, values) {
+    if !secondary_whole::is_whole(h, versions, values) {
         return Sweep {
             header: h,
             answer: Swept::Refused(Refusal::Damaged),

@@ -36,7 +36,7 @@ are-home-spec =
     Inv-loop
     μ-loop
     loop-holds
-    (λ c κs. search needs)
+    (λ c κs. (c .before .before .before .before .before .before .before .pre, c .if1 .taken))
     returns
     (λ c. search needs)
     (λ c. search needs)

@@ -1,7 +1,7 @@
 -- `started` tells each case as the rules' answer. Assumes nothing.
 use mathlib.Core.Path.{sym, ap, _∙_}
-use Rattle.secondary_enter.specs.declared.Begun.{Begun}
-use Rattle.secondary_enter.specs.Outcomes.{begunOf}
+use Rattle.secondary_put.specs.declared.Begun.{Begun}
+use Rattle.secondary_put.specs.Outcomes.{begunOf}
 use Rattle.map_answers.specs.Listed.{listedHeader}
 use borrow.Author.Needs.{needs}
 use Rattle.map_answers.proofs.started.Statement.{statement}
