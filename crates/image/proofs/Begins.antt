@@ -12,7 +12,7 @@ use borrow.Author.Tests.{eqb-true}
 use Rattle.lists.specs.Among.{among}
 use Rattle.lists.specs.Listed.{picked}
 use Rattle.lists.proofs.Listed.{mem-picked, picked-mem, once-picked}
-use Rattle.numbers.proofs.Told.{both}
+use Rattle.writing.proofs.Told.{both}
 use Rattle.lists.proofs.Tests.{split, true-false}
 use Rattle.lists.proofs.Once.{once-nil}
 use Rattle.keys.specs.Keys.{idx, pack, version, asRead}

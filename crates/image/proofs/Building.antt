@@ -11,8 +11,8 @@ use lib.Seq.{drop-cons}
 use Rattle.lists.specs.Count.{count}
 use Rattle.lists.specs.Listed.{listed, picked}
 use Rattle.lists.proofs.Put.{put-nil}
-use Rattle.numbers.specs.Told.{Told, tells, refused}
-use Rattle.numbers.proofs.Told.{never, told, both}
+use Rattle.writing.specs.Told.{Told, tells, refused}
+use Rattle.writing.proofs.Told.{never, told, both}
 use Rattle.records.specs.declared.Record.{Record}
 use Rattle.records.specs.declared.Record.the-variants.{Vacant}
 use Rattle.summaries.specs.declared.Summary.{Summary}

@@ -9,8 +9,8 @@ use lib.Dec.{eqb}
 use lib.ListN.{length}
 use borrow.Author.Tests.{ne-eqb}
 use Rattle.lists.proofs.Tests.{split}
-use Rattle.numbers.specs.Told.{Told, tells, refused, onward}
-use Rattle.numbers.proofs.Told.{never, told, refused-same, both, by-answer, onward-same, onward-assoc}
+use Rattle.writing.specs.Told.{Told, tells, refused, onward}
+use Rattle.writing.proofs.Told.{never, told, refused-same, both, by-answer, onward-same, onward-assoc}
 use Rattle.records.specs.declared.Record.{Record}
 use Rattle.summaries.specs.declared.Summary.{Summary}
 use Rattle.records.specs.Records.{versionOf, presenceOf, recordsFrom, countOf, listOf, recordsOf}

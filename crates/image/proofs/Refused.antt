@@ -12,9 +12,9 @@ use lib.ListN.{length}
 use borrow.Author.Tests.{eqb-true, eqb-false, ltb-true, ltb-false, le-leb, lt-leb, ne-eqb}
 use Rattle.lists.specs.Put.{put}
 use Rattle.lists.proofs.Tests.{split}
-use Rattle.numbers.specs.Told.{Told, tells, refused, onward}
+use Rattle.writing.specs.Told.{Told, tells, refused, onward}
 use Rattle.numbers.specs.Numbers.{numberAt}
-use Rattle.numbers.specs.Writing.{written}
+use Rattle.writing.specs.Writing.{written}
 use Rattle.records.specs.declared.Record.{Record}
 use Rattle.records.specs.declared.Record.the-variants.{Vacant, Occupied}
 use Rattle.records.specs.Records.{versionOf, presenceOf, recordAt, recordsFrom, countOf, listOf, recordsOf}

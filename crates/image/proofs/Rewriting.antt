@@ -13,9 +13,9 @@ use borrow.Author.Tests.{eq-eqb, ne-eqb, le-leb}
 use Rattle.lists.proofs.Tests.{split, true-false, false-if}
 use Rattle.lists.specs.Put.{put}
 use Rattle.lists.proofs.Listed.{length-listed, getD-listed, listed-same}
-use Rattle.numbers.specs.Told.{tells}
+use Rattle.writing.specs.Told.{tells}
 use Rattle.numbers.specs.Numbers.{Bytes}
-use Rattle.numbers.proofs.Told.{by-answer, both}
+use Rattle.writing.proofs.Told.{by-answer, both}
 use Rattle.keys.specs.Keys.{idx, version}
 use Rattle.keys.proofs.Keys.{version-odd}
 use Rattle.records.specs.declared.Record.{Record}

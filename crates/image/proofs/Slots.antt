@@ -10,8 +10,8 @@ use lib.ListN.{length, getD}
 use borrow.Author.Tests.{eqb-true, eq-eqb, ne-eqb, le-leb, lt-leb}
 use Rattle.lists.proofs.Tests.{split, parts, true-false}
 use Rattle.lists.specs.Count.{count}
-use Rattle.numbers.specs.Told.{tells}
-use Rattle.numbers.proofs.Told.{never}
+use Rattle.writing.specs.Told.{tells}
+use Rattle.writing.proofs.Told.{never}
 use Rattle.records.specs.declared.Record.{Record}
 use Rattle.records.specs.declared.Record.the-variants.{Vacant, Occupied}
 use Rattle.records.specs.Records.{versionOf, presenceOf, Fit, FitAll}

@@ -17,7 +17,7 @@ use Rattle.lists.specs.Listed.{listed, picked}
 use Rattle.lists.proofs.Count.{count-yes, count-no}
 use Rattle.lists.proofs.Put.{set-put, length-put}
 use Rattle.lists.proofs.Listed.{listed-more, length-listed, picked-yes, picked-no, length-picked, count-fewer}
-use Rattle.numbers.specs.Told.{tells}
+use Rattle.writing.specs.Told.{tells}
 use Rattle.keys.specs.Keys.{pack, odd}
 use Rattle.records.specs.declared.Record.{Record}
 use Rattle.records.specs.declared.Record.the-variants.{Vacant, Occupied}

@@ -15,11 +15,11 @@ use Rattle.lists.specs.Put.{put}
 use Rattle.lists.proofs.Tests.{split}
 use Rattle.lists.proofs.Put.{put-put, length-put}
 use Rattle.lists.proofs.Listed.{listed-more, length-listed}
-use Rattle.numbers.specs.Told.{Told, tells, refused}
+use Rattle.writing.specs.Told.{Told, tells, refused}
 use Rattle.numbers.specs.Numbers.{encoded}
-use Rattle.numbers.specs.Writing.{written}
-use Rattle.numbers.proofs.Told.{never, told, refused-same, both}
-use Rattle.numbers.proofs.Writing.{written-fits}
+use Rattle.writing.specs.Writing.{written}
+use Rattle.writing.proofs.Told.{never, told, refused-same, both}
+use Rattle.writing.proofs.Writing.{written-fits}
 use Rattle.records.specs.declared.Record.{Record}
 use Rattle.records.specs.Records.{recordBytes, listBytes, bytesOf}
 use Rattle.table.specs.Table.{Table, hasShape}

@@ -7,8 +7,8 @@ use mathlib.Core.List.{List}
 use Prim.Native.Nat.{ℕ}
 use lib.ListN.{length}
 use Rattle.lists.specs.Listed.{listed}
-use Rattle.numbers.specs.Told.{Told, tells, refused}
-use Rattle.numbers.specs.Writing.{written}
+use Rattle.writing.specs.Told.{Told, tells, refused}
+use Rattle.writing.specs.Writing.{written}
 use Rattle.records.specs.declared.Record.{Record}
 use Rattle.records.specs.declared.Record.the-variants.{Vacant, Occupied}
 use Rattle.records.specs.Records.{bytesOf}

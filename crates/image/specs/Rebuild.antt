@@ -15,7 +15,7 @@ use lib.ListN.{length, getD}
 use Rattle.lists.specs.Count.{count}
 use Rattle.lists.specs.Put.{put}
 use Rattle.lists.specs.Listed.{listed, picked}
-use Rattle.numbers.specs.Told.{Told, tells, refused, onward}
+use Rattle.writing.specs.Told.{Told, tells, refused, onward}
 use Rattle.keys.specs.Keys.{pack}
 use Rattle.records.specs.declared.Record.{Record}
 use Rattle.records.specs.declared.Record.the-variants.{Vacant, Occupied}

@@ -8,7 +8,7 @@ use Prim.Native.Nat.{ℕ, _+_, _≤_, _<_}
 use lib.Dec.{leb, ltb, eqb}
 use lib.ListN.{length}
 use Rattle.lists.specs.Listed.{picked}
-use Rattle.numbers.specs.Told.{tells}
+use Rattle.writing.specs.Told.{tells}
 use Rattle.keys.specs.Keys.{idx, version}
 use Rattle.records.specs.declared.Record.{Record}
 use Rattle.records.specs.Records.{versionOf, FitAll}

@@ -1,6 +1,6 @@
 -- What the calls on a slot image say, as answers. Assumes nothing.
 use Prim.Native.Nat.{ℕ}
-use Rattle.numbers.specs.Told.{Told, tells, refused}
+use Rattle.writing.specs.Told.{Told, tells, refused}
 use Rattle.answers.specs.declared.Answer.{Answer}
 use Rattle.answers.specs.Kinds.{COUNTS, answered, refusal, number}
 

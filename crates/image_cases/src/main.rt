@@ -7,9 +7,9 @@ use image_write::write_image;
 use libc::STDIN_FILENO;
 use libc::STDOUT_FILENO;
 use lines::first;
-use numbers::Written;
 use refusal::Refusal;
 use table::Header;
+use writing::Written;
 
 // The most bytes that an image of standard input has.
 const LONGEST: u8 = 32;

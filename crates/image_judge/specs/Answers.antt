@@ -2,7 +2,7 @@
 -- Assumes nothing.
 use Prim.Native.Nat.{ℕ}
 use Rattle.refusal.specs.Refusals.{numberOf}
-use Rattle.numbers.specs.Told.{Told, tells, refused}
+use Rattle.writing.specs.Told.{Told, tells, refused}
 use Rattle.image_judge.specs.declared.Counts.{Counts}
 use Rattle.image_judge.specs.declared.Counts.the-variants.{Slots, Refused}
 

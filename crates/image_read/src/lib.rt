@@ -1,6 +1,6 @@
 // A table rebuilt from a slot image over lent arrays. The Rust's `dense.rs`, deserialize.
 ghost use mathlib.Core.Path.{_≡_};
-ghost use Rattle.numbers.specs.Told.{tells};
+ghost use Rattle.writing.specs.Told.{tells};
 ghost use Rattle.dense.specs.Lent.{table, before, after};
 ghost use Rattle.dense.specs.Answers.{begunOf};
 ghost use Rattle.image.specs.Rebuild.{rebuiltFrom, rebuild};

@@ -1,10 +1,10 @@
--- No second outcome: the reading of a length is one-to-one; what writes an image answers as a number's writer does. Assumes nothing.
+-- No second outcome: the reading of a length is one-to-one; what writes an image answers as every writer does. Assumes nothing.
 use Prim.Native.Nat.{ℕ}
 use mathlib.Core.Path.{_≡_, sym, ap}
 use Rattle.lists.proofs.Only.{only-read}
 use Rattle.refusal.proofs.Numbers.{number-one-to-one}
-use Rattle.numbers.specs.Told.{Told}
-use Rattle.numbers.proofs.Told.{never, told, refused-same}
+use Rattle.writing.specs.Told.{Told}
+use Rattle.writing.proofs.Told.{never, told, refused-same}
 use Rattle.image_write.specs.Answers.{lengthOf}
 use Rattle.image_write.specs.declared.Length.{Length}
 use Rattle.image_write.specs.declared.Length.the-variants.{Bytes, Refused}

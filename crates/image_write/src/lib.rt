@@ -4,7 +4,7 @@ ghost use mathlib.Core.Bool.{true};
 ghost use Prim.Native.Nat.{_<_, _≤_};
 ghost use lib.ListN.{length};
 ghost use Rattle.lists.specs.Put.{put};
-ghost use Rattle.numbers.specs.Writing.{endOf, outcome};
+ghost use Rattle.writing.specs.Writing.{toldOf, outcome};
 ghost use Rattle.records.specs.Records.{Fit};
 ghost use Rattle.table.specs.Sound.{isSound};
 ghost use Rattle.dense.specs.Lent.{table, before};
@@ -14,10 +14,10 @@ ghost use Rattle.image_write.specs.Answers.{lengthOf};
 use dense::has_shape;
 use dense_sound::is_sound;
 use keys::is_odd;
-use numbers::Written;
 use records::Record;
 use refusal::Refusal;
 use table::Header;
+use writing::Written;
 
 // How many bytes an image has.
 pub enum Length {
@@ -51,7 +51,7 @@ fn bytes_in(h: Header, versions: &[u32], links: &[u32], keys: &[u64], values: &[
     requires { ⌜ isSound (table (now versions) (now links) (now keys) (now values) h) ≡ true ⌝ }
     ensures { λ r. ⌜ r ≡ length (imageBytes (before versions links keys values h)) ⌝ }
 {
-    let mut total = numbers::encoded_len(h.s as u64);
+    let mut total = numbers_write::encoded_len(h.s as u64);
     let mut i: u32 = 0;
     while i < h.s {
         let slot = slot_record(h, versions, links, keys, values, i);
@@ -76,7 +76,7 @@ pub fn image_len(h: Header, versions: &[u32], links: &[u32], keys: &[u64], value
 
 // Where writing ended. Writing that was refused has moved nothing.
 fn place_after(written: Written, at: usize) -> usize
-    ensures { λ r. ⌜ r ≡ endOr at (endOf written) ⌝ }
+    ensures { λ r. ⌜ r ≡ endOr at (toldOf written) ⌝ }
 {
     match written {
         Written::End(next) => next,
@@ -96,7 +96,7 @@ fn put_image(
     requires { ⌜ (isSound (table (now versions) (now links) (now keys) (now values) h) ≡ true) × (length (imageBytes (table (now versions) (now links) (now keys) (now values) h)) ≤ length (now out)) ⌝ }
     ensures { λ _. ⌜ now (out .exit) ≡ put (now (out .entry)) 0 (imageBytes (before versions links keys values h)) ⌝ }
 {
-    let count = numbers::write_number(h.s as u64, 0, out);
+    let count = numbers_write::write_number(h.s as u64, 0, out);
     let mut at = place_after(count, 0);
     let mut i: u32 = 0;
     while i < h.s {

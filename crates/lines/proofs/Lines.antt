@@ -13,20 +13,21 @@ use borrow.Author.Tests.{le-leb, eq-eqb, ne-eqb}
 use Rattle.lists.specs.Put.{put}
 use Rattle.lists.proofs.Put.{put-nil, put-put, length-put}
 use Rattle.lists.proofs.Tests.{either}
-use Rattle.text.specs.Text.{Told, written}
-use Rattle.text.proofs.Text.{written-fits}
+use Rattle.writing.specs.Told.{Told}
+use Rattle.writing.specs.Writing.{written}
+use Rattle.writing.proofs.Writing.{room-written}
 use Rattle.lines.specs.Lines.{page, placeOf, wrote, wroteAll, joined, space, newline, row, lineEnd}
 
 -- ---- pieces
 
 -- what a writer's outcome leaves: the place that it hands back, and the buffer
-pub wrote-by : (at : ℕ) (t b d : List ℕ) (n : ℕ) (w : Told) → n ≡ placeOf at w → _≡_ {A = Told × List ℕ} (w, d) (written at t b) → page n d ≡ wrote (page at b) t
+pub wrote-by : (at : ℕ) (t b d : List ℕ) (n : ℕ) (w : Told ℕ) → n ≡ placeOf at w → _≡_ {A = Told ℕ × List ℕ} (w, d) (written at t b) → page n d ≡ wrote (page at b) t
 unfolding wrote
 wrote-by at t b d n w p e =
-    ap (λ (m : ℕ). page m d) p ∙ ap (λ (o : Told × List ℕ). page (placeOf at (o .0)) (o .1)) e
+    ap (λ (m : ℕ). page m d) p ∙ ap (λ (o : Told ℕ × List ℕ). page (placeOf at (o .0)) (o .1)) e
 
 wrote-fits : (at : ℕ) (b t : List ℕ) → at + length t ≤ length b → page (at + length t) (put b at t) ≡ wrote (page at b) t
-wrote-fits at b t h = wrote-by at t b _ _ _ refl (written-fits at _ t b refl _ (le-leb _ _ h) refl)
+wrote-fits at b t h = wrote-by at t b _ _ _ refl (room-written at _ t b refl _ (le-leb _ _ h) refl)
 
 -- where the whole text fits, the pieces stand there joined, and the place is behind them
 pub wroteAll-fits : (at : ℕ) (b : List ℕ) (ts : List (List ℕ)) → at + length (joined ts) ≤ length b

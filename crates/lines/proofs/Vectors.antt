@@ -1,7 +1,8 @@
 -- Worked texts, each computed from the definitions. Assumes nothing.
 use mathlib.Core.Path.{_≡_, refl}
 use mathlib.Core.List.{[], _∷_}
-use Rattle.text.specs.Text.{decimal, digits, written}
+use Rattle.writing.specs.Writing.{written}
+use Rattle.text.specs.Text.{decimal, digits}
 use Rattle.lines.specs.Lines.{page, wrote, wroteAll, hexDigit, hexText, row, joined, lineEnd}
 
 -- 0xac prints `ac`

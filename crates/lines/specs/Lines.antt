@@ -4,7 +4,8 @@ use mathlib.Core.Bool.{cond}
 use mathlib.Core.List.{List, [], _∷_, _++_}
 use lib.ListN.{take, drop}
 use lib.Dec.{eqb, ltb}
-use Rattle.text.specs.Text.{Told, ends-at, refused, written}
+use Rattle.writing.specs.Told.{Told, tells, refused}
+use Rattle.writing.specs.Writing.{written}
 
 -- ---- pieces of text, one after the other
 
@@ -13,8 +14,8 @@ abbrev pub page : ℕ → List ℕ → ℕ × List ℕ
 page at b = (at, b)
 
 -- the place behind a text that was asked at a place: its end, or the same place where the text did not fit
-abbrev pub placeOf : ℕ → Told → ℕ
-placeOf at (ends-at n) = n
+abbrev pub placeOf : ℕ → Told ℕ → ℕ
+placeOf at (tells n) = n
 placeOf at (refused r) = at
 
 -- a piece put in at the place, which moves on behind it; a piece that does not fit is left out, and nothing changes

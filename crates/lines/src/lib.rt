@@ -5,7 +5,8 @@ ghost use mathlib.Core.List.{[], _∷_};
 ghost use Prim.Native.Nat.{_<_};
 ghost use lib.ListN.{take};
 ghost use Rattle.keys.specs.Keys.{keyOf};
-ghost use Rattle.text.specs.Text.{decimal, keyText, toldOf};
+ghost use Rattle.writing.specs.Writing.{toldOf};
+ghost use Rattle.text.specs.Text.{decimal, keyText};
 ghost use Rattle.lines.specs.Lines.{page, placeOf, wrote, wroteAll, hexDigit, hexText, lineEnd, lineAt};
 
 mod rows;
@@ -16,10 +17,10 @@ pub use rows::named_numbers;
 pub use rows::named_words;
 pub use rows::numbers;
 pub use rows::words;
-use text::Written;
-use text::write_bytes;
 use text::write_decimal;
 use text::write_key;
+use writing::Written;
+use writing::write_bytes;
 
 // The place behind a text that was written at a place; a text that did not fit is left out.
 fn behind(text: Written, at: usize) -> usize

@@ -14,8 +14,8 @@ use image_read::rebuild;
 use image_write::write_image;
 use libc::STDOUT_FILENO;
 use lines::first;
-use numbers::Written;
 use table::Header;
+use writing::Written;
 
 fn main() {
     let mut versions = [0u32; 9];

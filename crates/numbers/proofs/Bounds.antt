@@ -9,11 +9,11 @@ use lib.ListN.{length, drop, length-drop, drop-of-length-le}
 use lib.Seq.{drop-append-le}
 use lib.Pow.{pow-pos}
 use Rattle.lists.proofs.Tests.{lt-or-le}
-use Rattle.numbers.specs.Told.{Told, tells, refused}
+use Rattle.writing.specs.Told.{Told, tells, refused}
 use Rattle.numbers.specs.declared.Partial.{Partial}
 use Rattle.numbers.specs.Numbers.{Step, whole, more, worth, takeOf, stepped, readFrom, numberAt, unread}
 use Rattle.numbers.proofs.Numbers.{part, by-byte}
-use Rattle.numbers.proofs.Told.{never, told, refused-same, both}
+use Rattle.writing.proofs.Told.{never, told, refused-same, both}
 
 -- ---- an accepted number
 

@@ -1,7 +1,5 @@
-pub mod Told
 pub mod Numbers
 pub mod Encoded
-pub mod Writing
 pub mod Reading
 pub mod Bounds
 pub mod Words

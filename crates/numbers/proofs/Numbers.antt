@@ -9,7 +9,7 @@ use native.Mathlib.Omega.{arith}
 use lib.Pow.{pow-add}
 use borrow.Author.Tests.{lt-ltb, le-ltb}
 use Rattle.lists.proofs.Tests.{lt-or-le}
-use Rattle.numbers.specs.Told.{Told, tells, refused}
+use Rattle.writing.specs.Told.{Told, tells, refused}
 use Rattle.numbers.specs.declared.Partial.{Partial}
 use Rattle.numbers.specs.Numbers.{Step, whole, more, worth, least, takeOf, stepped, readFrom}
 

@@ -5,12 +5,13 @@ use mathlib.Core.List.{List, [], _∷_, _++_}
 use mathlib.Core.Logic.{⊎-elim}
 use native.Mathlib.Nat.{mul-le-mul-right}
 use native.Mathlib.Omega.{arith}
-use lib.ListN.{length, drop}
-use lib.Seq.{drop-append-seam, drop-drop, getD-drop}
+use lib.ListN.{length, take, drop}
+use lib.Seq.{drop-append-seam, drop-drop, getD-drop, length-take-le}
+use Rattle.lists.specs.Put.{put}
 use Rattle.lists.proofs.Tests.{lt-or-le}
-use Rattle.numbers.specs.Told.{Told, tells}
+use Rattle.writing.specs.Told.{Told, tells}
 use Rattle.numbers.specs.Numbers.{worth, least, readFrom, numberAt, groupsOf, encoded, Bytes}
-use Rattle.numbers.proofs.Told.{never, told, both}
+use Rattle.writing.proofs.Told.{never, told, both}
 use Rattle.numbers.proofs.Numbers.{part, worth-next, least-small, least-next, regroup, read-last, read-more, by-byte}
 use Rattle.numbers.proofs.Encoded.{groups-last, groups-more, encoded-last, encoded-more}
 
@@ -57,6 +58,13 @@ pub decode-encode : (bits n : ℕ) (front rest : List ℕ) → n < 2 ^ bits
     → numberAt bits (front ++ (encoded n ++ rest)) (length front) ≡ tells (n, length front + length (encoded n))
 decode-encode bits n front rest h =
     decode-at bits n (front ++ (encoded n ++ rest)) rest (length front) h (drop-append-seam front (encoded n ++ rest)) .0
+
+-- and so it does where it was put into a buffer
+pub reads-back : (bits n at : ℕ) (b : List ℕ) → n < 2 ^ bits → at + length (encoded n) ≤ length b
+    → numberAt bits (put b at (encoded n)) at ≡ tells (n, at + length (encoded n))
+reads-back bits n at b f h =
+    let long : length (take at b) ≡ at = length-take-le at b (omega arith) in
+    rw long at (decode-encode bits n (take at b) (drop (at + length (encoded n)) b) f)
 
 -- ---- encode of decode
 

@@ -1,4 +1,2 @@
-pub mod Told
 pub mod Numbers
-pub mod Writing
 pub mod Words

@@ -9,20 +9,13 @@ use mathlib.Core.Bool.{true, false, cond}
 use mathlib.Core.List.{List, [], _∷_}
 use lib.Dec.{ltb}
 use lib.ListN.{drop, getD}
-use Rattle.refusal.specs.Refusals as refusals
-use Rattle.numbers.specs.Told.{Told, tells, refused}
+use Rattle.refusal.specs.Refusals.{numberOf}
+use Rattle.writing.specs.Told.{Told, tells, refused}
 use Rattle.numbers.specs.declared.Partial.{Partial}
-use Rattle.numbers.specs.declared.Number.{Number}
-use Rattle.numbers.specs.declared.Number.the-variants as Number′
 use Rattle.numbers.specs.declared.Taken.{Taken}
-use Rattle.numbers.specs.declared.Taken.the-variants as Taken′
+use Rattle.numbers.specs.declared.Taken.the-variants.{More, Whole, Refused}
 
--- ---- the answers' values and numbers
-
--- a number and the place after it; or the number of a refusal
-abbrev pub readingOf : Number → Told (ℕ × ℕ)
-readingOf (Number′.Read v n) = tells (v, n)
-readingOf (Number′.Refused r) = refused (refusals.numberOf r)
+-- ---- reading
 
 -- what a byte makes of the groups before it: a whole number, or more groups
 pub data Step : Type 0 where
@@ -30,11 +23,9 @@ pub data Step : Type 0 where
   more : Partial → Step
 
 abbrev pub stepOf : Taken → Told Step
-stepOf (Taken′.More p) = tells (more p)
-stepOf (Taken′.Whole v) = tells (whole v)
-stepOf (Taken′.Refused r) = refused (refusals.numberOf r)
-
--- ---- reading
+stepOf (More p) = tells (more p)
+stepOf (Whole v) = tells (whole v)
+stepOf (Refused r) = refused (numberOf r)
 
 -- what one is worth in the group after so many groups
 abbrev pub worth : ℕ → ℕ

@@ -4,7 +4,7 @@ use Prim.Native.Nat.{ℕ, _+_, _*_, _/_, _%_, _^_}
 use mathlib.Core.Bool.{Bool, cond, _&&_, _||_}
 use mathlib.Core.List.{List, [], _∷_}
 use lib.Dec.{ltb, leb, eqb}
-use Rattle.numbers.specs.Told.{Told, tells, refused}
+use Rattle.writing.specs.Told.{Told, tells, refused}
 use Rattle.numbers.specs.Numbers.{worth}
 
 -- "a zero last group after others": so many groups stand before the byte b

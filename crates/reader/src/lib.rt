@@ -1,10 +1,11 @@
 // The image reader as a struct: the lent bytes and a place in them. Each function takes it apart and calls the reader of that slice and place;
 // an answer names the next place, and `moved` goes there.
 ghost use mathlib.Core.Path.{_≡_};
-ghost use Rattle.numbers.specs.Numbers.{readingOf, numberAt};
+ghost use Rattle.numbers_read.specs.Reading.{readingOf};
+ghost use Rattle.numbers.specs.Numbers.{numberAt};
 ghost use Rattle.records.specs.Records.{recordOf, recordAt};
 ghost use Rattle.reader.specs.Readers.{readerAt};
-use numbers::Number;
+use numbers_read::Number;
 use records::RecordRead;
 
 pub struct ImageReader<'a> {
@@ -24,14 +25,14 @@ impl<'a> ImageReader<'a> {
     pub fn next_u32(self) -> Number
         ensures { λ r. ⌜ readingOf r ≡ numberAt 32 (now (self .entry .bytes)) (self .entry .at) ⌝ }
     {
-        numbers::read_u32(self.bytes, self.at)
+        numbers_read::read_u32(self.bytes, self.at)
     }
 
     // The number of 64 bits at the reader's place.
     pub fn next_u64(self) -> Number
         ensures { λ r. ⌜ readingOf r ≡ numberAt 64 (now (self .entry .bytes)) (self .entry .at) ⌝ }
     {
-        numbers::read_u64(self.bytes, self.at)
+        numbers_read::read_u64(self.bytes, self.at)
     }
 
     // The record at the reader's place.

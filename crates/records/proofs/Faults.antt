@@ -6,9 +6,9 @@ use mathlib.Core.List.{List}
 use lib.Dec.{ltb, eqb}
 use lib.ListN.{length}
 use Rattle.lists.proofs.Tests.{split}
-use Rattle.numbers.specs.Told.{Told, refused}
+use Rattle.writing.specs.Told.{Told, refused}
 use Rattle.numbers.specs.Numbers.{numberAt}
-use Rattle.numbers.proofs.Told.{never, refused-same, by-refusal}
+use Rattle.writing.proofs.Told.{never, refused-same, by-refusal}
 use Rattle.numbers.proofs.Bounds.{number-refusals}
 use Rattle.records.specs.Records.{recordAt, recordsFrom, countOf, listOf, recordsOf, Fault, ends, form, too-many, trailing, presence}
 

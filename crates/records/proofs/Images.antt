@@ -9,9 +9,9 @@ use lib.Dec.{ltb, eqb}
 use lib.ListN.{length, drop, length-append, drop-of-length-le}
 use borrow.Author.Tests.{le-ltb, ltb-false, eqb-true}
 use Rattle.lists.proofs.Tests.{split}
-use Rattle.numbers.specs.Told.{tells}
+use Rattle.writing.specs.Told.{tells}
 use Rattle.numbers.specs.Numbers.{numberAt, encoded, Bytes}
-use Rattle.numbers.proofs.Told.{never, told, both, by-answer}
+use Rattle.writing.proofs.Told.{never, told, both, by-answer}
 use Rattle.numbers.proofs.Reading.{decode-at, encode-decode}
 use Rattle.numbers.proofs.Bounds.{number-fits}
 use Rattle.records.specs.declared.Record.{Record}

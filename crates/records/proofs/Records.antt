@@ -7,9 +7,9 @@ use lib.ListN.{length, length-append}
 use lib.Dec.{ltb}
 use borrow.Author.Tests.{lt-ltb, le-ltb, ltb-false, eq-eqb, ne-eqb}
 use Rattle.lists.proofs.Tests.{split}
-use Rattle.numbers.specs.Told.{tells, refused}
+use Rattle.writing.specs.Told.{tells, refused}
 use Rattle.numbers.specs.Numbers.{numberAt, encoded}
-use Rattle.numbers.proofs.Told.{never, told, both, by-answer}
+use Rattle.writing.proofs.Told.{never, told, both, by-answer}
 use Rattle.numbers.proofs.Encoded.{length-last, length-bound}
 use Rattle.records.specs.declared.Record.{Record}
 use Rattle.records.specs.declared.Record.the-variants.{Vacant, Occupied}

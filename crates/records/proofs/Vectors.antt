@@ -1,7 +1,7 @@
 -- Images of the rules and of their limits, at most five slots, computed. Assumes nothing.
 use mathlib.Core.Path.{_≡_, refl}
 use mathlib.Core.List.{List, [], _∷_}
-use Rattle.numbers.specs.Told.{Told, tells, refused}
+use Rattle.writing.specs.Told.{Told, tells, refused}
 use Rattle.numbers.specs.Numbers.{takeOf, readFrom, numberAt, groupsOf, encoded}
 use Rattle.records.specs.declared.Record.{Record}
 use Rattle.records.specs.declared.Record.the-variants.{Vacant, Occupied}

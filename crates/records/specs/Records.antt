@@ -11,7 +11,7 @@ use mathlib.Core.List.{List, [], _∷_, _++_}
 use lib.Dec.{ltb, eqb}
 use lib.ListN.{length}
 use Rattle.refusal.specs.Refusals.{numberOf}
-use Rattle.numbers.specs.Told.{Told, tells, refused, onward}
+use Rattle.writing.specs.Told.{Told, tells, refused, onward}
 use Rattle.numbers.specs.Numbers.{numberAt, encoded}
 use Rattle.records.specs.declared.Record.{Record}
 use Rattle.records.specs.declared.Record.the-variants.{Vacant, Occupied}

@@ -1,11 +1,11 @@
 // A slot image's records: each slot's version, presence and value, read from lent bytes and written into a lent buffer.
 ghost use mathlib.Core.Path.{_≡_};
 ghost use lib.ListN.{length};
-ghost use Rattle.numbers.specs.Writing.{outcome, written};
+ghost use Rattle.writing.specs.Writing.{outcome, written};
 ghost use Rattle.records.specs.Records.{recordOf, recordAt, recordBytes};
-use numbers::Number;
-use numbers::Written;
+use numbers_read::Number;
 use refusal::Refusal;
+use writing::Written;
 
 // A slot as an image has it: vacant, or occupied by a value.
 pub enum Record {
@@ -25,12 +25,12 @@ pub enum RecordRead {
 pub fn read_record(bytes: &[u8], at: usize) -> RecordRead
     ensures { λ r. ⌜ recordOf r ≡ recordAt (now (bytes .entry)) at ⌝ }
 {
-    match numbers::read_u32(bytes, at) {
+    match numbers_read::read_u32(bytes, at) {
         Number::Refused(no_version) => RecordRead::Refused(no_version),
         Number::Read {
             value: v,
             next: behind,
-        } => match numbers::read_u32(bytes, behind) {
+        } => match numbers_read::read_u32(bytes, behind) {
             Number::Refused(no_presence) => RecordRead::Refused(no_presence),
             Number::Read {
                 value: presence,
@@ -46,7 +46,7 @@ pub fn read_record(bytes: &[u8], at: usize) -> RecordRead
                 if presence != 1 {
                     return RecordRead::Refused(Refusal::Presence);
                 }
-                match numbers::read_u64(bytes, last) {
+                match numbers_read::read_u64(bytes, last) {
                     Number::Refused(no_value) => RecordRead::Refused(no_value),
                     Number::Read { value, next } => RecordRead::Read {
                         slot: Record::Occupied { version, value },
@@ -63,9 +63,9 @@ pub fn record_len(slot: Record) -> usize
     ensures { λ r. ⌜ r ≡ length (recordBytes slot) ⌝ }
 {
     match slot {
-        Record::Vacant { version } => numbers::encoded_len(version as u64) + 1,
+        Record::Vacant { version } => numbers_write::encoded_len(version as u64) + 1,
         Record::Occupied { version, value } => {
-            numbers::encoded_len(version as u64) + 1 + numbers::encoded_len(value)
+            numbers_write::encoded_len(version as u64) + 1 + numbers_write::encoded_len(value)
         }
     }
 }
@@ -83,13 +83,13 @@ pub fn write_record(slot: Record, at: usize, out: &mut [u8]) -> Written
     }
     match slot {
         Record::Vacant { version } => {
-            let first = numbers::write_number(version as u64, at, out);
-            numbers::write_after(first, 0, out)
+            let first = numbers_write::write_number(version as u64, at, out);
+            numbers_write::write_after(first, 0, out)
         }
         Record::Occupied { version, value } => {
-            let first = numbers::write_number(version as u64, at, out);
-            let second = numbers::write_after(first, 1, out);
-            numbers::write_after(second, value, out)
+            let first = numbers_write::write_number(version as u64, at, out);
+            let second = numbers_write::write_after(first, 1, out);
+            numbers_write::write_after(second, value, out)
         }
     }
 }

@@ -7,12 +7,12 @@ use made::begun;
 use made::detach;
 use made::insert;
 use made::remove;
-use numbers::Written;
 use replay::Line;
 use replay_bend::Lent;
 use replay_lines::NO_LINE;
 use replay_state::state;
 use table::Header;
+use writing::Written;
 
 // What an image would be rebuilt as, in a table of so many slots at most.
 fn judge(bytes: &[u8], most: usize) -> Answer {

@@ -7,9 +7,6 @@ use native.Mathlib.Omega.{arith}
 use lib.ListN.{length, take, drop, length-append}
 use lib.Seq.{take-at}
 use lib.Dec.{leb}
-use borrow.Author.Tests.{le-leb}
-use Rattle.lists.specs.Put.{put}
-use Rattle.lists.proofs.Put.{put-put, length-put}
 use Rattle.lists.proofs.Tests.{split}
 use Rattle.refusal.specs.declared.Refusal.{Refusal}
 use Rattle.refusal.specs.declared.Refusal.the-variants.{Shape, Dead, Full, NotDetached, Damaged, Short, Beyond, IndexZero, Ends, Form, TooMany, First, Occupation, Trailing, Presence, Line}
@@ -17,11 +14,13 @@ use Rattle.refusal.specs.Refusals.{numberOf}
 use Rattle.keys.specs.Keys.{W, idx, version, keyOf, isNull}
 use Rattle.keys.specs.declared.KeyData.{KeyData}
 use Rattle.keys.proofs.Keys.{version-word}
-use Rattle.text.specs.declared.Written.{Written}
-use Rattle.text.specs.declared.Written.the-variants.{End}
-use Rattle.text.specs.declared.Written.the-variants as written-variants
-use Rattle.text.specs.Text.{decimal, keyText, Told, ends-at, refused, toldOf, outcome, written}
-use Rattle.text.proofs.Text.{written-refused}
+use Rattle.writing.specs.declared.Written.{Written}
+use Rattle.writing.specs.declared.Written.the-variants.{End}
+use Rattle.writing.specs.declared.Written.the-variants as written-variants
+use Rattle.writing.specs.Told.{Told, tells, refused}
+use Rattle.writing.specs.Writing.{toldOf, outcome, written, writtenAfter}
+use Rattle.text.specs.Text.{decimal, keyText}
+use Rattle.writing.proofs.Writing.{written-refused, then-end, written-then, written-fits}
 use Rattle.text.proofs.Decimal.{length-decimal, length-decimal-64, digits-short}
 use Rattle.text.proofs.Keys.{key-text-null, key-text-length}
 use Rattle.table.specs.Table.{Table}
@@ -31,43 +30,7 @@ use Rattle.commands.specs.Lines.{Asked, asked}
 use Rattle.script_act.specs.declared.Answer.{Answer}
 use Rattle.script_act.specs.declared.Answer.the-variants.{Key, Value, Done, Count, Refused}
 use Rattle.script_act.specs.Acts.{answerSaid, answered}
-use Rattle.script.specs.Script.{okText, refusedText, newline, answerText, lineOut, room, endOf, Run, shown, ran, thenTold, lined}
-
--- ---- a text after a text
-
-pub then-end : (t b : List ℕ) {w : Written} {n : ℕ} → w ≡ End n → written n t b ≡ thenTold (toldOf w) t b
-then-end t b e = rw e
-
-pub then-refused : (t b : List ℕ) {w : Written} {r : Refusal} → w ≡ written-variants.Refused r → _≡_ {A = Told × List ℕ} (refused (numberOf r), b) (thenTold (toldOf w) t b)
-then-refused t b e = rw e
-
-abbrev ended : ℕ → List ℕ → Told × List ℕ
-ended n b = (ends-at n, b)
-
-written-is : (at : ℕ) (t b : List ℕ) → at + length t ≤ length b → written at t b ≡ (ends-at (at + length t), put b at t)
-unfolding written
-written-is at t b h = rw (le-leb (at + length t) (length b) h)
-
--- both fit: the one after the other is the two in one
-pub then-fits : (at : ℕ) (s t b d : List ℕ) (w : Told) → at + length (s ++ t) ≤ length b → _≡_ {A = Told × List ℕ} (w, d) (written at s b)
-    → thenTold w t d ≡ written at (s ++ t) b
-then-fits at s t b d w h e =
-    ap (λ (p : Told × List ℕ). thenTold (p .0) t (p .1)) (e ∙ written-is at s b first)
-    ∙ written-is (at + length s) t (put b at s) second
-    ∙ ap₂ (λ (n : ℕ) (x : List ℕ). ended n x) whole (put-put b at s t first)
-    ∙ sym (written-is at (s ++ t) b h)
-  where
-    both : length (s ++ t) ≡ length s + length t
-    both = length-append s t
-
-    first : at + length s ≤ length b
-    first = omega (arith, both)
-
-    second : at + length s + length t ≤ length (put b at s)
-    second = omega (arith, both, length-put b at s first)
-
-    whole : at + length s + length t ≡ at + length (s ++ t)
-    whole = omega (arith, both)
+use Rattle.script.specs.Script.{okText, refusedText, newline, answerText, lineOut, room, endOf, Run, shown, ran, lined}
 
 -- ---- how long a line is
 
@@ -121,40 +84,40 @@ key-short k =
 -- ---- an answer's line
 
 -- b is the buffer before, d the buffer after the answer's text, and x the buffer after the newline
-module _ (at : ℕ) (b d : List ℕ) (w : Told) {q : Told} {x : List ℕ} (fits : at + room ≤ length b) (ends : _≡_ {A = Told × List ℕ} (q, x) (thenTold w (newline ∷ []) d)) where
+module _ (at : ℕ) (b d : List ℕ) (w : Told ℕ) {q : Told ℕ} {x : List ℕ} (fits : at + room ≤ length b) (ends : _≡_ {A = Told ℕ × List ℕ} (q, x) (writtenAfter w (newline ∷ []) d)) where
   -- the answer's text and the newline after it are the answer's line, which is no longer than the room
-  says : (s : Said) → length (lineOut s) ≤ room → _≡_ {A = Told × List ℕ} (w, d) (written at (answerText s) b)
-      → (_≡_ {A = Told × List ℕ} (q, x) (lined s at b)) × (length (lineOut s) ≤ room)
+  says : (s : Said) → length (lineOut s) ≤ room → _≡_ {A = Told ℕ × List ℕ} (w, d) (written at (answerText s) b)
+      → (_≡_ {A = Told ℕ × List ℕ} (q, x) (lined s at b)) × (length (lineOut s) ≤ room)
   unfolding lineOut
-  says s l e = (ends ∙ then-fits at (answerText s) (newline ∷ []) b d w enough e ∙ written-is at (lineOut s) b enough, l)
+  says s l e = (ends ∙ written-then at (answerText s) (newline ∷ []) b enough e ∙ written-fits at (lineOut s) b enough, l)
     where
       enough : at + length (lineOut s) ≤ length b
       enough = omega arith
 
   -- the same by the kind of answer
   module _ {a : Answer} where
-    pub says-key : {k : ℕ} {key : KeyData} → a ≡ Key k → key ≡ keyOf k → _≡_ {A = Told × List ℕ} (w, d) (written at (keyText key) b)
-        → (_≡_ {A = Told × List ℕ} (q, x) (lined (answerSaid a) at b)) × (length (lineOut (answerSaid a)) ≤ room)
+    pub says-key : {k : ℕ} {key : KeyData} → a ≡ Key k → key ≡ keyOf k → _≡_ {A = Told ℕ × List ℕ} (w, d) (written at (keyText key) b)
+        → (_≡_ {A = Told ℕ × List ℕ} (q, x) (lined (answerSaid a) at b)) × (length (lineOut (answerSaid a)) ≤ room)
     unfolding answerText
     says-key {k} e f g = rw e (says (said-key k) (key-short k) (rw f at g))
 
-    pub says-value : {y : ℕ} → a ≡ Value y → y < 2 ^ 64 → _≡_ {A = Told × List ℕ} (w, d) (written at (decimal y) b)
-        → (_≡_ {A = Told × List ℕ} (q, x) (lined (answerSaid a) at b)) × (length (lineOut (answerSaid a)) ≤ room)
+    pub says-value : {y : ℕ} → a ≡ Value y → y < 2 ^ 64 → _≡_ {A = Told ℕ × List ℕ} (w, d) (written at (decimal y) b)
+        → (_≡_ {A = Told ℕ × List ℕ} (q, x) (lined (answerSaid a) at b)) × (length (lineOut (answerSaid a)) ≤ room)
     unfolding answerText
     says-value {y} e h g = rw e (says (said-value y) (value-short y h) g)
 
-    pub says-count : {m : ℕ} → a ≡ Count m → m < 2 ^ 64 → _≡_ {A = Told × List ℕ} (w, d) (written at (decimal m) b)
-        → (_≡_ {A = Told × List ℕ} (q, x) (lined (answerSaid a) at b)) × (length (lineOut (answerSaid a)) ≤ room)
+    pub says-count : {m : ℕ} → a ≡ Count m → m < 2 ^ 64 → _≡_ {A = Told ℕ × List ℕ} (w, d) (written at (decimal m) b)
+        → (_≡_ {A = Told ℕ × List ℕ} (q, x) (lined (answerSaid a) at b)) × (length (lineOut (answerSaid a)) ≤ room)
     unfolding answerText
     says-count {m} e h g = rw e (says (said-count m) (count-short m h) g)
 
-    pub says-done : a ≡ Done → _≡_ {A = Told × List ℕ} (w, d) (written at okText b)
-        → (_≡_ {A = Told × List ℕ} (q, x) (lined (answerSaid a) at b)) × (length (lineOut (answerSaid a)) ≤ room)
+    pub says-done : a ≡ Done → _≡_ {A = Told ℕ × List ℕ} (w, d) (written at okText b)
+        → (_≡_ {A = Told ℕ × List ℕ} (q, x) (lined (answerSaid a) at b)) × (length (lineOut (answerSaid a)) ≤ room)
     unfolding answerText
     says-done e g = rw e (says said-done done-short g)
 
-    pub says-refused : {r : Refusal} → a ≡ Refused r → _≡_ {A = Told × List ℕ} (w, d) (written at (refusedText ++ decimal (numberOf r)) b)
-        → (_≡_ {A = Told × List ℕ} (q, x) (lined (answerSaid a) at b)) × (length (lineOut (answerSaid a)) ≤ room)
+    pub says-refused : {r : Refusal} → a ≡ Refused r → _≡_ {A = Told ℕ × List ℕ} (w, d) (written at (refusedText ++ decimal (numberOf r)) b)
+        → (_≡_ {A = Told ℕ × List ℕ} (q, x) (lined (answerSaid a) at b)) × (length (lineOut (answerSaid a)) ≤ room)
     unfolding answerText
     says-refused {r} e g = rw e (says (calls.refused (numberOf r)) (refused-short (numberOf r) (number-small r)) g)
 
@@ -163,7 +126,7 @@ module _ (at : ℕ) (b d : List ℕ) (w : Told) {q : Told} {x : List ℕ} (fits 
 module _ (at : ℕ) (b d : List ℕ) {w : Written} (fits : at + room ≤ length b) (first : outcome w d ≡ written at refusedText b) where
   pub refusal-text : (r : Refusal) {n m : ℕ} → w ≡ End n → m ≡ numberOf r → written n (decimal m) d ≡ written at (refusedText ++ decimal (numberOf r)) b
   refusal-text r {n} {m} e f =
-      rw f (then-end (decimal (numberOf r)) d e ∙ then-fits at refusedText (decimal (numberOf r)) b d (toldOf w) enough first)
+      rw f (then-end (decimal (numberOf r)) d e ∙ written-then at refusedText (decimal (numberOf r)) b enough first)
     where
       enough : at + length (refusedText ++ decimal (numberOf r)) ≤ length b
       enough = omega (arith, length-append refusedText (decimal (numberOf r)), decimal-32 (numberOf r) (number-small r))
@@ -184,24 +147,24 @@ module _ (t : Table) (line : List ℕ) (at : ℕ) (b : List ℕ) where
   ran-fits h = rw h
 
   -- the parts of a line's outcome, from what was done and what was said
-  pub runs : (u : Table) (d : List ℕ) {a : Asked} {s : Said} {w : Told} → leb (at + room) (length b) ≡ true → a ≡ asked line → _≡_ {A = Out} (s, u) (answered t a)
-      → _≡_ {A = Told × List ℕ} (w, d) (lined s at b) → _≡_ {A = Run} (w, (u, d)) (ran t line at b)
+  pub runs : (u : Table) (d : List ℕ) {a : Asked} {s : Said} {w : Told ℕ} → leb (at + room) (length b) ≡ true → a ≡ asked line → _≡_ {A = Out} (s, u) (answered t a)
+      → _≡_ {A = Told ℕ × List ℕ} (w, d) (lined s at b) → _≡_ {A = Run} (w, (u, d)) (ran t line at b)
   runs u d {a} {s} {w} h e f g =
       ap (joined u) g ∙ ap (λ (o : Out). shown o at b) (f ∙ ap (answered t) e) ∙ sym (ran-fits h)
     where
-      joined : Table → Told × List ℕ → Run
+      joined : Table → Told ℕ × List ℕ → Run
       joined v p = (p .0, (v, p .1))
 
 -- where a line ends that has its room
-pub ends-in-room : (s : Said) (at : ℕ) (b d : List ℕ) (w : Told) → _≡_ {A = Told × List ℕ} (w, d) (lined s at b) → length (lineOut s) ≤ room → endOf w ≤ at + room
-ends-in-room s at b d w e l = subst (λ (p : Told × List ℕ). endOf (p .0) ≤ at + room) (sym e) (omega arith)
+pub ends-in-room : (s : Said) (at : ℕ) (b d : List ℕ) (w : Told ℕ) → _≡_ {A = Told ℕ × List ℕ} (w, d) (lined s at b) → length (lineOut s) ≤ room → endOf w ≤ at + room
+ends-in-room s at b d w e l = subst (λ (p : Told ℕ × List ℕ). endOf (p .0) ≤ at + room) (sym e) (omega arith)
 
 -- ---- a line made at the front of a buffer
 
 module _ (s : Said) (b d : List ℕ) {w : Written} (e : outcome w d ≡ lined s 0 b) where
   pub front-end : {n : ℕ} → w ≡ End n → n ≡ length (lineOut s)
   front-end {n} f =
-      let q : ends-at n ≡ ends-at (0 + length (lineOut s)) = sym (ap toldOf f) ∙ ap (λ (p : Told × List ℕ). p .0) e in
+      let q : tells n ≡ tells (0 + length (lineOut s)) = sym (ap toldOf f) ∙ ap (λ (p : Told ℕ × List ℕ). p .0) e in
       let m : n ≡ 0 + length (lineOut s) = cc in
       omega arith
 
@@ -209,14 +172,14 @@ module _ (s : Said) (b d : List ℕ) {w : Written} (e : outcome w d ≡ lined s 
   pub front-written : {n : ℕ} → w ≡ End n → (at : ℕ) (out : List ℕ) → written at (take n d) out ≡ written at (lineOut s) out
   front-written f at out =
       ap (λ (t : List ℕ). written at t out)
-      (ap₂ (λ (m : ℕ) (x : List ℕ). take m x) (front-end f) (ap (λ (p : Told × List ℕ). p .1) e)
+      (ap₂ (λ (m : ℕ) (x : List ℕ). take m x) (front-end f) (ap (λ (p : Told ℕ × List ℕ). p .1) e)
       ∙ take-at (lineOut s) (drop (0 + length (lineOut s)) b) (length (lineOut s)) refl)
 
   pub front-in : {n : ℕ} → w ≡ End n → n ≤ length d
-  front-in f = omega (arith, front-end f, ap (λ (p : Told × List ℕ). length (p .1)) e, length-append (lineOut s) (drop (0 + length (lineOut s)) b))
+  front-in f = omega (arith, front-end f, ap (λ (p : Told ℕ × List ℕ). length (p .1)) e, length-append (lineOut s) (drop (0 + length (lineOut s)) b))
 
   pub front-fits : {r : Refusal} → w ≡ written-variants.Refused r → ⊥
   front-fits {r} f =
-      let q : refused (numberOf r) ≡ ends-at (0 + length (lineOut s)) = sym (ap toldOf f) ∙ ap (λ (p : Told × List ℕ). p .0) e in
+      let q : refused (numberOf r) ≡ tells (0 + length (lineOut s)) = sym (ap toldOf f) ∙ ap (λ (p : Told ℕ × List ℕ). p .0) e in
       let z : _≡_ {A = ℕ} 0 1 = cc in
       omega arith

@@ -6,9 +6,11 @@ use lib.ListN.{length}
 use lib.Dec.{leb}
 use Rattle.lists.specs.Put.{put}
 use Rattle.keys.specs.Keys.{keyOf}
-use Rattle.text.specs.declared.Written.{Written}
-use Rattle.text.specs.Text.{decimal, keyText, Told, ends-at, toldOf, written}
-use Rattle.text.specs.Text as text
+use Rattle.writing.specs.declared.Written.{Written}
+use Rattle.writing.specs.Told.{Told, tells}
+use Rattle.writing.specs.Writing.{toldOf}
+use Rattle.text.specs.Text.{decimal, keyText}
+use Rattle.writing.specs.Told as told
 use Rattle.table.specs.Table.{Table}
 use Rattle.table.specs.Calls.{Said, said-key, said-value, said-pair, said-done, said-count, said-truth, refused, Out}
 use Rattle.commands.specs.Lines.{asked}
@@ -51,33 +53,28 @@ abbrev pub room : ℕ
 room = 22
 
 -- where a text was told to end; 0 of a refusal
-abbrev pub endOf : Told → ℕ
-endOf (ends-at n) = n
-endOf (text.refused r) = 0
+abbrev pub endOf : Told ℕ → ℕ
+endOf (tells n) = n
+endOf (told.refused r) = 0
 
 -- a line's outcome: where the printed text ends, the table and the buffer
 abbrev pub Run : Type 0
-Run = Told × (Table × List ℕ)
+Run = Told ℕ × (Table × List ℕ)
 
 abbrev pub ranOf : Written → Table → List ℕ → Run
 ranOf w t b = (toldOf w, (t, b))
 
 -- the answer o, printed into the buffer b from a place on
 abbrev pub shown : Out → ℕ → List ℕ → Run
-shown o at b = (ends-at (at + length (lineOut (o .0))), (o .1, put b at (lineOut (o .0))))
+shown o at b = (tells (at + length (lineOut (o .0))), (o .1, put b at (lineOut (o .0))))
 
 -- a line run on a table, its answer printed into the buffer b from a place on. The room for the longest answer is judged before the line is
 -- run, since no call is made that could not be answered: 6, and nothing is done
 unfoldable pub ran : Table → List ℕ → ℕ → List ℕ → Run
-ran t line at b = cond (leb (at + room) (length b)) (shown (answered t (asked line)) at b) (text.refused 6, (t, b))
+ran t line at b = cond (leb (at + room) (length b)) (shown (answered t (asked line)) at b) (told.refused 6, (t, b))
 
 -- ---- for private functions
 
--- a text written after one that was told to end at a place; after a refusal, nothing
-abbrev pub thenTold : Told → List ℕ → List ℕ → Told × List ℕ
-thenTold (ends-at n) t b = written n t b
-thenTold (text.refused r) t b = (text.refused r, b)
-
 -- an answer's line in the buffer b from a place on, where there is room for it: the place after it, and the buffer with the line put in
-abbrev pub lined : Said → ℕ → List ℕ → Told × List ℕ
-lined a at b = (ends-at (at + length (lineOut a)), put b at (lineOut a))
+abbrev pub lined : Said → ℕ → List ℕ → Told ℕ × List ℕ
+lined a at b = (tells (at + length (lineOut a)), put b at (lineOut a))

@@ -5,20 +5,21 @@ ghost use Prim.Native.Nat.{_+_, _≤_};
 ghost use lib.Dec.{leb};
 ghost use lib.ListN.{length};
 ghost use Rattle.refusal.specs.Refusals.{numberOf};
-ghost use Rattle.text.specs.Text.{decimal, toldOf, outcome, written};
+ghost use Rattle.writing.specs.Writing.{toldOf, outcome, written, writtenAfter};
+ghost use Rattle.text.specs.Text.{decimal};
 ghost use Rattle.dense.specs.Lent.{before, after};
 ghost use Rattle.script_act.specs.Acts.{answerSaid};
-ghost use Rattle.script.specs.Script.{refusedText, newline, lineOut, room, endOf, ranOf, ran, thenTold, lined};
+ghost use Rattle.script.specs.Script.{refusedText, newline, lineOut, room, endOf, ranOf, ran, lined};
 use commands::parse;
 use keys::KeyData;
 use refusal::Refusal;
 use script_act::Answer;
 use script_act::act;
 use table::Header;
-use text::Written;
-use text::write_bytes;
 use text::write_decimal;
 use text::write_key;
+use writing::Written;
+use writing::write_bytes;
 
 // How many elements the script's table may have.
 pub const CAPACITY: usize = 1000;
@@ -34,7 +35,7 @@ pub struct Ran {
 
 // The newline after a text, unless the text was refused.
 fn end_line(w: Written, out: &mut [u8]) -> Written
-    ensures { λ r. ⌜ outcome r (now (out .exit)) ≡ thenTold (toldOf w) (newline ∷ []) (now (out .entry)) ⌝ }
+    ensures { λ r. ⌜ outcome r (now (out .exit)) ≡ writtenAfter (toldOf w) (newline ∷ []) (now (out .entry)) ⌝ }
 {
     match w {
         Written::End(n) => write_bytes(b"\n", n, out),

@@ -10,7 +10,7 @@ use refusal::Refusal;
 use script::ROOM;
 use script::run_line;
 use table::Header;
-use text::Written;
+use writing::Written;
 
 // How many bytes of a line are held: one more than a line may have, so that a longer one shows.
 pub const HELD: usize = LONGEST + 1;

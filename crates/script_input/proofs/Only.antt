@@ -1,8 +1,8 @@
 -- No second outcome of `feed` and `finish`: one answer, one table, one line that has begun and one output. Assumes nothing.
 use mathlib.Core.Path.{_≡_}
 use Rattle.lists.proofs.Only.{only-both}
-use Rattle.text.specs.declared.Written.{Written}
-use Rattle.text.proofs.Text.{told-one-to-one}
+use Rattle.writing.specs.declared.Written.{Written}
+use Rattle.writing.proofs.Outcomes.{told-one-to-one}
 use Rattle.script_input.specs.Machine.{Machine, Fed, fedOf}
 
 -- the machine holds the arrays, the header, the count and both buffers

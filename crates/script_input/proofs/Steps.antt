@@ -11,9 +11,10 @@ use lib.Dec.{leb, ltb, eqb}
 use borrow.Author.Tests.{leb-true, ltb-true, ltb-false, eqb-true, eqb-false, le-leb, lt-leb, lt-ltb, le-ltb, eq-eqb, ne-eqb}
 use Rattle.lists.proofs.Tests.{split, and-left, and-right, same-test}
 use Rattle.refusal.specs.declared.Refusal.{Refusal}
-use Rattle.text.specs.declared.Written.{Written}
-use Rattle.text.specs.declared.Written.the-variants.{End, Refused}
-use Rattle.text.specs.Text.{ends-at, refused, toldOf}
+use Rattle.writing.specs.declared.Written.{Written}
+use Rattle.writing.specs.declared.Written.the-variants.{End, Refused}
+use Rattle.writing.specs.Told.{tells, refused}
+use Rattle.writing.specs.Writing.{toldOf}
 use Rattle.table.specs.Table.{Table}
 use Rattle.script.specs.Script.{newline, room, endOf, Run, ranOf, ran}
 use Rattle.script.proofs.Says.{ran-fits}
@@ -112,7 +113,7 @@ module _ (m : Machine) where
   finished-short e = rw e
 
   module _ (e : isReady m 1 ≡ true) where
-    pub finished-empty : m .count ≡ 0 → _≡_ {A = Fed} (ends-at 0, m) (finished m)
+    pub finished-empty : m .count ≡ 0 → _≡_ {A = Fed} (tells 0, m) (finished m)
     unfolding finished
     finished-empty h = rw (e, eq-eqb (m .count) 0 h)
 

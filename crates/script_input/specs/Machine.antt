@@ -5,8 +5,9 @@ use mathlib.Core.List.{List, [], _∷_, _++_}
 use lib.ListN.{length, take, set}
 use lib.Dec.{leb, ltb, eqb}
 use Rattle.lists.specs.Put.{put}
-use Rattle.text.specs.declared.Written.{Written}
-use Rattle.text.specs.Text.{Told, ends-at, refused, toldOf}
+use Rattle.writing.specs.declared.Written.{Written}
+use Rattle.writing.specs.Told.{Told, tells, refused}
+use Rattle.writing.specs.Writing.{toldOf}
 use Rattle.table.specs.Table.{Table}
 use Rattle.table.specs.Calls.{Out}
 use Rattle.commands.specs.Lines.{longest, asked}
@@ -70,13 +71,13 @@ isReady m n = isReadyFor (m .count) (length (m .line)) n (length (m .out))
 
 -- what was printed ends at a place; or it is a refusal, and nothing changed
 abbrev pub Fed : Type 0
-Fed = Told × Machine
+Fed = Told ℕ × Machine
 
 abbrev pub fedOf : Written → Machine → Fed
 fedOf w m = (toldOf w, m)
 
 abbrev pub ending : Step → Fed
-ending p = (ends-at (p .0), p .1)
+ending p = (tells (p .0), p .1)
 
 -- a part of the input, its answers printed from the front of the output on. Room for an answer to each of its bytes is judged first, 6
 unfoldable pub fed : Machine → List ℕ → Fed

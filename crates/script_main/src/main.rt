@@ -11,7 +11,7 @@ use script_feed::HELD;
 use script_feed::feed;
 use script_feed::finish;
 use table::Header;
-use text::Written;
+use writing::Written;
 
 const SLOTS: usize = CAPACITY + 1;
 

@@ -15,8 +15,8 @@ use made::detach;
 use made::insert;
 use made::reattach;
 use made::remove;
-use numbers::Written;
 use table::Header;
+use writing::Written;
 
 // 1v1
 const FIRST: u64 = 0x1_0000_0001;

@@ -8,7 +8,7 @@ use Rattle.table.specs.Table.{lengthsFit, hasShape, isLive, dead, isDetached, i
 use Rattle.table.specs.Sound.{isHome, isWaiting, leads, steps, isSound}
 use Rattle.table.specs.Thread.{nextFree, joined}
 use Rattle.numbers.specs.Numbers.{takeOf, readFrom, numberAt, groupsOf, encoded}
-use Rattle.numbers.specs.Writing.{written}
+use Rattle.writing.specs.Writing.{written}
 use Rattle.records.specs.Records.{recordAt, recordsFrom, countOf, listOf, recordsOf, recordBytes, listBytes, bytesOf}
 use Rattle.summaries.specs.Summaries.{lives, wrongs}
 use Rattle.image.specs.Image.{slotOf, imageOf, imageBytes, writeImage}

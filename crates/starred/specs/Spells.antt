@@ -5,7 +5,7 @@ use lib.ListN.{take}
 use Rattle.lists.specs.Listed.{listed}
 use Rattle.keys.specs.declared.KeyData.{KeyData}
 use Rattle.keys.specs.Keys.{keyOf}
-use Rattle.numbers.specs.Told as told
+use Rattle.writing.specs.Told as told
 use Rattle.table.specs.declared.Header.{Header}
 use Rattle.table.specs.Table.{Table, ver}
 use Rattle.table.specs.Calls.{Said, Out, Begun, fresh, insert, nextKey, remove, detach, reattach}

@@ -9,9 +9,9 @@ use lib.Dec.{ltb}
 use lib.ListN.{length}
 use borrow.Author.Tests.{lt-ltb, le-ltb, ne-eqb}
 use Rattle.lists.proofs.Tests.{split}
-use Rattle.numbers.specs.Told.{Told, tells, refused, onward}
+use Rattle.writing.specs.Told.{Told, tells, refused, onward}
 use Rattle.numbers.specs.Numbers.{encoded, Bytes}
-use Rattle.numbers.proofs.Told.{onward-same, onward-assoc}
+use Rattle.writing.proofs.Told.{onward-same, onward-assoc}
 use Rattle.numbers.proofs.Reading.{encode-decode}
 use Rattle.records.specs.declared.Record.{Record}
 use Rattle.records.specs.declared.Record.the-variants.{Vacant, Occupied}

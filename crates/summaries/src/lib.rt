@@ -1,10 +1,10 @@
 // All records of a slot image: how many slots there are, and what a judge keeps of them.
 // What the records have to say for a table (refusals 13 and 14) is for those who know the table.
 ghost use mathlib.Core.Path.{_≡_};
-ghost use Rattle.numbers.specs.Numbers.{readingOf};
+ghost use Rattle.numbers_read.specs.Reading.{readingOf};
 ghost use Rattle.records.specs.Records.{countOf};
 ghost use Rattle.summaries.specs.Summaries.{judgementOf, blank, notedAs, noted, judgedFrom, judgedOf};
-use numbers::Number;
+use numbers_read::Number;
 use records::Record;
 use records::RecordRead;
 use records::read_record;
@@ -14,7 +14,7 @@ use refusal::Refusal;
 pub fn read_count(bytes: &[u8], most: usize) -> Number
     ensures { λ r. ⌜ readingOf r ≡ countOf (now (bytes .entry)) most ⌝ }
 {
-    match numbers::read_u32(bytes, 0) {
+    match numbers_read::read_u32(bytes, 0) {
         Number::Refused(why) => Number::Refused(why),
         Number::Read { value, next } => {
             if (most as u64) < value {

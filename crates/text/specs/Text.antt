@@ -1,15 +1,10 @@
--- Numbers and keys as text, in ASCII, and text written into a buffer. Assumes nothing.
+-- Numbers and keys as text, in ASCII. Assumes nothing.
 use Prim.Native.Nat.{ℕ, zero, suc, _+_, _-_, _*_, _/_, _%_}
 use mathlib.Core.Bool.{cond, _&&_}
 use mathlib.Core.List.{List, [], _∷_, _++_}
-use lib.ListN.{length}
 use lib.Dec.{leb, ltb}
-use Rattle.lists.specs.Put.{put}
-use Rattle.refusal.specs.Refusals.{numberOf}
 use Rattle.keys.specs.Keys.{isNull}
 use Rattle.keys.specs.declared.KeyData.{KeyData}
-use Rattle.text.specs.declared.Written.{Written}
-use Rattle.text.specs.declared.Written.the-variants.{End, Refused}
 
 -- ---- numbers
 
@@ -49,24 +44,3 @@ nullText = 110 ∷ 117 ∷ 108 ∷ 108 ∷ []
 -- "Any key with that index is null and prints `null`; others print index, `v`, version."
 unfoldable pub keyText : KeyData → List ℕ
 keyText k = cond (isNull k) nullText (decimal (k .idx) ++ (118 ∷ decimal (k .version)))
-
--- ---- a text in a lent buffer
-
--- what an answer says: the place after the text, or the number of a refusal
-pub data Told : Type 0 where
-  ends-at : ℕ → Told
-  refused : ℕ → Told
-
--- the same, of the answer that the code gives
-abbrev pub toldOf : Written → Told
-toldOf (End n) = ends-at n
-toldOf (Refused r) = refused (numberOf r)
-
--- an outcome: what the answer says, and the buffer after
-abbrev pub outcome : Written → List ℕ → Told × List ℕ
-outcome r b = (toldOf r, b)
-
--- the text t asked into the buffer b from a place on: the place after it, and the buffer with the text put in, every other byte as it was;
--- where the text does not fit, refusal 6, and the buffer stays
-unfoldable pub written : ℕ → List ℕ → List ℕ → Told × List ℕ
-written at t b = cond (leb (at + length t) (length b)) (ends-at (at + length t), put b at t) (refused 6, b)

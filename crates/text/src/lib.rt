@@ -1,31 +1,15 @@
-// Texts in a lent buffer: bytes, decimal numbers and keys, each written from a place on.
-// The whole length is judged before the first byte is stored, so a refusal leaves the buffer as it was.
+// Decimal numbers and keys as text in a lent buffer, each written from a place on.
 ghost use mathlib.Core.Path.{_≡_};
 ghost use Prim.Native.Nat.{_+_, _≤_};
-ghost use lib.Dec.{leb};
 ghost use lib.ListN.{length};
 ghost use Rattle.lists.specs.Put.{put};
-ghost use Rattle.text.specs.Text.{decimal, keyText, outcome, written};
+ghost use Rattle.writing.specs.Writing.{outcome, written};
+ghost use Rattle.text.specs.Text.{decimal, keyText};
 use keys::KeyData;
 use refusal::Refusal;
-
-// What writing a text into a lent buffer answers.
-pub enum Written {
-    // The place after the text.
-    End(usize),
-    // The buffer is too short, and nothing was written: refusal 6.
-    Refused(Refusal),
-}
-
-// Whether so many bytes fit from a place on into a buffer of this size. The place and the count are never added: their sum may not fit a usize.
-fn has_room(at: usize, count: usize, size: usize) -> bool
-    ensures { λ r. ⌜ r ≡ leb (at + count) size ⌝ }
-{
-    if size < at {
-        return false;
-    }
-    count <= size - at
-}
+use writing::Written;
+use writing::has_room;
+use writing::write_bytes;
 
 // How many decimal digits a number has.
 fn decimal_len(number: u64) -> usize
@@ -38,18 +22,6 @@ fn decimal_len(number: u64) -> usize
         count += 1;
     }
     count
-}
-
-// Puts the bytes of a text into a buffer, from a place on.
-fn put_bytes(text: &[u8], at: usize, out: &mut [u8])
-    requires { ⌜ at + length (now text) ≤ length (now out) ⌝ }
-    ensures { λ _. ⌜ now (out .exit) ≡ put (now (out .entry)) at (now (text .entry)) ⌝ }
-{
-    let mut i = 0;
-    while i < text.len() {
-        out[at + i] = text[i];
-        i += 1;
-    }
 }
 
 // Puts a number's decimal digits into a buffer between two places, from the last digit to the first.
@@ -65,18 +37,6 @@ fn put_decimal(number: u64, at: usize, end: usize, out: &mut [u8])
         out[i] = b'0' + (rest % 10) as u8;
         rest = rest / 10;
     }
-}
-
-// Writes the bytes of a text from a place on.
-pub fn write_bytes(text: &[u8], at: usize, out: &mut [u8]) -> Written
-    ensures { λ r. ⌜ outcome r (now (out .exit)) ≡ written at (now (text .entry)) (now (out .entry)) ⌝ }
-{
-    if !has_room(at, text.len(), out.len()) {
-        return Written::Refused(Refusal::Short);
-    }
-    let end = at + text.len();
-    put_bytes(text, at, out);
-    Written::End(end)
 }
 
 // Writes a number in decimal from a place on.

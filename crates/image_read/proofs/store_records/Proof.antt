@@ -4,7 +4,7 @@ use borrow.Author.Needs.{needs}
 use mathlib.Core.Path.{_≡_, sym, ap, _∙_}
 use Prim.Native.Nat.{ℕ, _-_, _<_}
 use native.Mathlib.Omega.{arith}
-use Rattle.numbers.specs.Told.{tells, refused}
+use Rattle.writing.specs.Told.{tells, refused}
 use Rattle.records.specs.Records.{recordOf, recordAt}
 use Rattle.table.specs.Table.{Table}
 use Rattle.dense.specs.Lent.{table}

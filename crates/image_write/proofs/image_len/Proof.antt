@@ -2,7 +2,7 @@
 use borrow.Author.Needs.{needs}
 use mathlib.Core.Path.{ap}
 use Rattle.lists.proofs.Tests.{refuted, confirmed}
-use Rattle.numbers.specs.Told.{tells}
+use Rattle.writing.specs.Told.{tells}
 use Rattle.image.specs.Image.{imageLen}
 use Rattle.image_write.proofs.image_len.Statement.{statement}
 use Rattle.image_write.proofs.image_len.Tie as tie

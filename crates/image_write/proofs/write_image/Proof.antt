@@ -8,8 +8,8 @@ use native.Mathlib.Omega.{arith}
 use lib.ListN.{length}
 use Rattle.lists.specs.Put.{put}
 use Rattle.lists.proofs.Put.{length-put}
-use Rattle.numbers.specs.Told.{Told, tells, refused}
-use Rattle.numbers.proofs.Writing.{written-fits, written-short}
+use Rattle.writing.specs.Told.{Told, tells, refused}
+use Rattle.writing.proofs.Writing.{written-fits, written-short}
 use Rattle.table.specs.Table.{Table}
 use Rattle.image.specs.Image.{imageBytes, imageLen, writeImage}
 use Rattle.image.proofs.Writing.{write-refused, len-sound, write-told}

@@ -6,7 +6,7 @@ use native.Mathlib.Nat.{div-lt-iff-lt-mul, le-div-iff-mul-le, mod-eq-of-lt, mul-
 use native.Mathlib.Omega.{arith}
 use borrow.Author.Needs.{needs}
 use lib.Pow.{pow-pos, pow-mono}
-use Rattle.numbers.specs.Told.{tells, refused}
+use Rattle.writing.specs.Told.{tells, refused}
 use Rattle.numbers.specs.Numbers.{whole, more, worth, least, takeOf}
 use Rattle.numbers.proofs.Numbers.{part, take-low, take-high, take-last, take-more, least-pos, least-none, least-some}
 use Rattle.numbers.proofs.take_byte.Statement.{statement}

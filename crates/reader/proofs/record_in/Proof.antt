@@ -37,7 +37,7 @@ use denote.Triple.Table.{entered, cited}
 use denote.Triple.Walked.{says, Stays, stay-none, stay-none-slice, walkOf, goes-none, goes-none-slice, Walks, ends-at, walked, walk-meets}
 use denote.Exit.{yes}
 use denote.Triple.Clauses.{ensured, lasts}
-use Rattle.numbers.specs.Told.{Told}
+use Rattle.writing.specs.Told.{Told}
 use Rattle.records.specs.Records.{recordOf, recordAt}
 use Rattle.reader.specs.declared.ImageReader.{ImageReader}
 use Rattle.records.specs.declared.Record.{Record}

@@ -1,8 +1,9 @@
 -- `read_record` meets its contract: each way out says what each number was. Assumes nothing.
 use mathlib.Core.Path.{_≡_, sym, ap, _∙_}
 use borrow.Author.Needs.{needs}
-use Rattle.numbers.specs.Told.{tells}
-use Rattle.numbers.specs.Numbers.{readingOf, numberAt}
+use Rattle.writing.specs.Told.{tells}
+use Rattle.numbers_read.specs.Reading.{readingOf}
+use Rattle.numbers.specs.Numbers.{numberAt}
 use Rattle.numbers.proofs.Bounds.{number-fits}
 use Rattle.records.proofs.Records.{no-version, no-presence, vacant, neither, no-value, occupied}
 use Rattle.records.proofs.read_record.Statement.{statement}

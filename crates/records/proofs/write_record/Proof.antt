@@ -5,10 +5,10 @@ use mathlib.Core.List.{List, _++_}
 use native.Mathlib.Omega.{arith}
 use borrow.Author.Needs.{needs}
 use lib.ListN.{length, length-append}
-use Rattle.numbers.specs.Told.{Told}
+use Rattle.writing.specs.Told.{Told}
 use Rattle.numbers.specs.Numbers.{encoded}
-use Rattle.numbers.specs.Writing.{written, writtenAfter}
-use Rattle.numbers.proofs.Writing.{written-short, written-then}
+use Rattle.writing.specs.Writing.{written, writtenAfter}
+use Rattle.writing.proofs.Writing.{written-short, written-then}
 use Rattle.records.specs.Records.{recordBytes}
 use Rattle.records.specs.declared.Record.{Record}
 use Rattle.records.specs.declared.Record.the-variants.{Vacant, Occupied}

@@ -3,7 +3,7 @@ use mathlib.Core.Path.{_∙_}
 use mathlib.Core.List.{[], _∷_}
 use borrow.Author.Needs.{needs}
 use Rattle.script.specs.Script.{newline}
-use Rattle.script.proofs.Says.{then-end, then-refused}
+use Rattle.writing.proofs.Writing.{then-end, then-refused}
 use Rattle.script.proofs.end_line.Statement.{statement}
 use Rattle.script.proofs.end_line.Tie as tie
 

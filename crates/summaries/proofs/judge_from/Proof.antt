@@ -6,7 +6,7 @@ use mathlib.Core.List.{List}
 use native.Mathlib.Omega.{arith}
 use borrow.Author.Needs.{needs}
 use lib.ListN.{length}
-use Rattle.numbers.specs.Told.{Told, tells, refused, onward}
+use Rattle.writing.specs.Told.{Told, tells, refused, onward}
 use Rattle.records.specs.Records.{recordOf, recordAt}
 use Rattle.summaries.specs.Summaries.{blank, noted, judgedFrom}
 use Rattle.records.specs.declared.Record.{Record}

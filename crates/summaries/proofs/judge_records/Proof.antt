@@ -2,8 +2,8 @@
 use mathlib.Core.Path.{_≡_, sym, ap, _∙_}
 use borrow.Author.Needs.{needs}
 use Prim.Native.Nat.{ℕ}
-use Rattle.numbers.specs.Told.{Told, tells, onward}
-use Rattle.numbers.specs.Numbers.{readingOf}
+use Rattle.writing.specs.Told.{Told, tells, onward}
+use Rattle.numbers_read.specs.Reading.{readingOf}
 use Rattle.numbers.proofs.Bounds.{number-fits}
 use Rattle.records.specs.Records.{countOf}
 use Rattle.summaries.specs.Summaries.{judgedFrom, judgedOf}

@@ -1,8 +1,9 @@
 -- `read_count` meets its contract. Assumes nothing.
 use mathlib.Core.Path.{_≡_, sym, ap, _∙_}
 use borrow.Author.Needs.{needs}
-use Rattle.numbers.specs.Told.{tells}
-use Rattle.numbers.specs.Numbers.{readingOf, numberAt}
+use Rattle.writing.specs.Told.{tells}
+use Rattle.numbers_read.specs.Reading.{readingOf}
+use Rattle.numbers.specs.Numbers.{numberAt}
 use Rattle.records.proofs.Records.{no-count, too-many, counted}
 use Rattle.summaries.proofs.read_count.Statement.{statement}
 use Rattle.summaries.proofs.read_count.Tie as tie

@@ -6,8 +6,8 @@ use lib.ListN.{length}
 use borrow.Author.Needs.{needs}
 use borrow.Author.Tests.{leb-true}
 use Rattle.lists.proofs.Tests.{refuted, confirmed}
+use Rattle.writing.proofs.Writing.{room-written, no-room-written}
 use Rattle.text.specs.Text.{decimal}
-use Rattle.text.proofs.Text.{written-fits, written-short}
 use Rattle.text.proofs.write_decimal.Statement.{statement}
 use Rattle.text.proofs.write_decimal.Tie as tie
 
@@ -18,7 +18,7 @@ returns : tie.Need-returns
 returns c =
     let l = c .before .before in
     let s = l .before .before .args in
-    written-short (s .at) _ (decimal (s .number)) (s .out .now) (l .decimal-len .ensures) (refuted (c .before .has-room .ensures) (c .if1 .taken))
+    no-room-written (s .at) _ (decimal (s .number)) (s .out .now) (l .decimal-len .ensures) (refuted (c .before .has-room .ensures) (c .if1 .taken))
 
 add-end : tie.Need-add-end
 add-end c = omega (arith, room c)
@@ -33,7 +33,7 @@ returns-2 c =
     let e = c .before .before .before .before in
     let l = e .before .before in
     let s = l .before .before .args in
-    written-fits (s .at) _ (decimal (s .number)) (s .out .now) (l .decimal-len .ensures) _ (confirmed (e .before .has-room .ensures) (e .if1 .left)) (c .before .before .put-decimal .ensures)
+    room-written (s .at) _ (decimal (s .number)) (s .out .now) (l .decimal-len .ensures) _ (confirmed (e .before .has-room .ensures) (e .if1 .left)) (c .before .before .put-decimal .ensures)
 
 pub write-decimal-spec : {M : Type 1} → statement M
 write-decimal-spec =

@@ -8,9 +8,9 @@ use borrow.Author.Needs.{needs}
 use borrow.Author.Tests.{leb-true}
 use Rattle.lists.proofs.Tests.{refuted, confirmed}
 use Rattle.keys.specs.Keys.{isNull}
+use Rattle.writing.proofs.Writing.{room-written, no-room-written}
 use Rattle.text.specs.Text.{keyText}
 use Rattle.text.proofs.Decimal.{length-decimal-64}
-use Rattle.text.proofs.Text.{written-fits, written-short}
 use Rattle.text.proofs.Keys.{key-text-null, key-text-length, key-text-put}
 use Rattle.text.proofs.write_key.Statement.{statement}
 use Rattle.text.proofs.write_key.Tie as tie
@@ -45,7 +45,7 @@ returns-2 : tie.Need-returns-2
 returns-2 c =
     let l = c .before .before in
     let s = start l .args in
-    written-short (s .at) _ (keyText (s .key)) (s .out .now) (long l) (refuted (c .before .has-room .ensures) (c .if2 .taken))
+    no-room-written (s .at) _ (keyText (s .key)) (s .out .now) (long l) (refuted (c .before .has-room .ensures) (c .if2 .taken))
 
 put-decimal-requires : tie.Need-put-decimal-requires
 put-decimal-requires c κs =
@@ -69,7 +69,7 @@ returns-3 c =
     let l = e .before .before in
     let s = start l .args in
     let first = l .before .before .decimal-len in
-    written-fits (s .at) _ (keyText (s .key)) (s .out .now) (long l) _ (confirmed (e .before .has-room .ensures) (e .if2 .left))
+    room-written (s .at) _ (keyText (s .key)) (s .out .now) (long l) _ (confirmed (e .before .has-room .ensures) (e .if2 .left))
     (key-text-put (s .key) (plain l) (s .out .now) _ _ (s .at) (s .at + first .result) (ap (λ (n : ℕ). s .at + n) (first .ensures))
     (omega (arith, room e, l .decimal-len2 .ensures)) (g .put-decimal .ensures) (c .before .before .put-decimal2 .ensures))
 
