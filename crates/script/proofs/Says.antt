@@ -28,9 +28,9 @@ use Rattle.table.specs.Table.{Table}
 use Rattle.table.specs.Calls.{Said, said-key, said-value, said-done, said-count, Out}
 use Rattle.table.specs.Calls as calls
 use Rattle.commands.specs.Lines.{Asked, asked}
-use Rattle.script_act.specs.declared.Answer.{Answer}
-use Rattle.script_act.specs.declared.Answer.the-variants.{Key, Value, Done, Count, Refused}
-use Rattle.script_act.specs.Acts.{answerSaid, answered}
+use Rattle.script_look.specs.declared.Answer.{Answer}
+use Rattle.script_look.specs.declared.Answer.the-variants.{Key, Value, Done, Count, Refused}
+use Rattle.script_look.specs.Answers.{answerSaid, answered}
 use Rattle.script.specs.Script.{okText, refusedText, newline, answerText, lineOut, room, endOf, Run, shown, ran, thenTold, lined}
 
 -- ---- a text after a text

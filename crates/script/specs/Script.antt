@@ -12,7 +12,7 @@ use Rattle.text.specs.Text as text
 use Rattle.table.specs.Table.{Table}
 use Rattle.table.specs.Calls.{Said, said-key, said-value, said-pair, said-done, said-count, said-truth, refused, Out}
 use Rattle.commands.specs.Lines.{asked}
-use Rattle.script_act.specs.Acts.{answered}
+use Rattle.script_look.specs.Answers.{answered}
 
 -- "C=1,000"
 abbrev pub capacity : ℕ

@@ -10,7 +10,7 @@ use Rattle.text.specs.Text.{Told, ends-at, refused, toldOf}
 use Rattle.table.specs.Table.{Table}
 use Rattle.table.specs.Calls.{Out}
 use Rattle.commands.specs.Lines.{longest, asked}
-use Rattle.script_act.specs.Acts.{answered}
+use Rattle.script_look.specs.Answers.{answered}
 use Rattle.script.specs.Script.{newline, lineOut, room, endOf}
 
 -- how many bytes of a line are held: one more than a line may have, so that a longer one shows

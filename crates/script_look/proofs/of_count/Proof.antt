@@ -2,8 +2,8 @@
 use mathlib.Core.Path.{sym, ap}
 use borrow.Author.Needs.{needs}
 use Rattle.dense.specs.Answers.{countSaid}
-use Rattle.script_act.proofs.of_count.Statement.{statement}
-use Rattle.script_act.proofs.of_count.Tie as tie
+use Rattle.script_look.proofs.of_count.Statement.{statement}
+use Rattle.script_look.proofs.of_count.Tie as tie
 
 returns : tie.Need-returns
 returns c = sym (ap countSaid (c .before .counted .given .1))

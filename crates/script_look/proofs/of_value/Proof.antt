@@ -2,8 +2,8 @@
 use mathlib.Core.Path.{sym, ap}
 use borrow.Author.Needs.{needs}
 use Rattle.dense.specs.Answers.{valueSaid}
-use Rattle.script_act.proofs.of_value.Statement.{statement}
-use Rattle.script_act.proofs.of_value.Tie as tie
+use Rattle.script_look.proofs.of_value.Statement.{statement}
+use Rattle.script_look.proofs.of_value.Tie as tie
 
 returns : tie.Need-returns
 returns c = sym (ap valueSaid (c .before .found .given .1))
