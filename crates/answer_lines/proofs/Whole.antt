@@ -11,10 +11,11 @@ use Rattle.keys.specs.Keys.{W, idx, version, keyOf, isNull}
 use Rattle.keys.proofs.Keys.{version-word}
 use Rattle.text.specs.Text.{decimal, nullText, keyText}
 use Rattle.text.proofs.Decimal.{length-decimal, digits-short, length-decimal-64}
-use Rattle.lines.specs.Lines.{page, wroteAll, joined, newline}
-use Rattle.lines.proofs.Lines.{wroteAll-fits}
+use Rattle.pieces.specs.Pieces.{page, wroteAll, joined, newline}
+use Rattle.pieces.proofs.Pieces.{wroteAll-fits}
 use Rattle.answers.specs.declared.Answer.{Answer}
-use Rattle.answer_lines.specs.Answers.{truthText, figures, textOf, lineOf}
+use Rattle.answer_figures.specs.Figures.{figures}
+use Rattle.answer_lines.specs.Answers.{truthText, textOf, lineOf}
 
 word-short : (n : ℕ) → n < W → length (decimal n) ≤ 10
 word-short n h = omega (arith, length-decimal n, digits-short 9 (n / 10) (omega arith))

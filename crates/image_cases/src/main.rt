@@ -333,7 +333,7 @@ fn tell(answer: Answer) {
 // The number of a refusal, among others on one line.
 fn tell_number(why: Refusal) {
     let mut text = [0u8; 8];
-    let end = lines::labelled(b" ", why.number() as u64, 0, &mut text);
+    let end = pieces::labelled(b" ", why.number() as u64, 0, &mut text);
     say(first(&text, end));
 }
 

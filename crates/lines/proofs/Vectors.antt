@@ -1,24 +1,14 @@
--- Worked texts, each computed from the definitions. Assumes nothing.
+-- Worked lines, each computed from the definitions. Assumes nothing.
 use mathlib.Core.Path.{_≡_, refl}
 use mathlib.Core.List.{[], _∷_}
-use Rattle.writing.specs.Writing.{written}
 use Rattle.text.specs.Text.{decimal, digits}
-use Rattle.lines.specs.Lines.{page, wrote, wroteAll, hexDigit, hexText, row, joined, lineEnd}
-
--- 0xac prints `ac`
-hex-ac : hexText 172 ≡ 97 ∷ 99 ∷ []
-unfolding hexDigit
-hex-ac = refl
+use Rattle.pieces.specs.Pieces.{joined}
+use Rattle.lines.specs.Lines.{row, lineEnd}
 
 -- 7 and 300 as a line: ` 7 300` and a newline
 seven-and-300 : joined (row decimal (7 ∷ 300 ∷ [])) ≡ 32 ∷ 55 ∷ 32 ∷ 51 ∷ 48 ∷ 48 ∷ 10 ∷ []
 unfolding digits
 seven-and-300 = refl
-
--- in a buffer of three bytes the 300 is left out, and the newline is not
-no-room : wroteAll (page 0 (1 ∷ 2 ∷ 3 ∷ [])) ((32 ∷ []) ∷ decimal 300 ∷ (10 ∷ []) ∷ []) ≡ page 2 (32 ∷ 10 ∷ 3 ∷ [])
-unfolding digits wrote written
-no-room = refl
 
 -- of `ab`, newline, `c` the line at 1 ends at 3, the line at 3 at the text's end, and so does one behind it
 line-ends : lineEnd (97 ∷ 98 ∷ 10 ∷ 99 ∷ []) 1 ≡ 3

@@ -2,10 +2,11 @@
 ghost use mathlib.Core.Path.{_≡_};
 ghost use mathlib.Core.List.{[], _∷_};
 ghost use Rattle.text.specs.Text.{decimal};
-ghost use Rattle.lines.specs.Lines.{page, wroteAll, space, row, hexText};
-use crate::bytes;
-use crate::hex;
-use crate::labelled;
+ghost use Rattle.pieces.specs.Pieces.{page, wroteAll, space, hexText};
+ghost use Rattle.lines.specs.Lines.{row};
+use pieces::bytes;
+use pieces::hex;
+use pieces::labelled;
 
 fn spaced(value: u64, at: usize, out: &mut [u8]) -> usize
     ensures { λ r. ⌜ page r (now (out .exit)) ≡ wroteAll (page at (now (out .entry))) (space ∷ decimal value ∷ []) ⌝ }

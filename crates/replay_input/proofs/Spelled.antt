@@ -5,7 +5,7 @@ use Prim.Native.Nat.{ℕ, suc, _+_, _-_, _≤_, _<_}
 use native.Mathlib.Omega.{arith}
 use lib.ListN.{length, drop, getD, length-drop}
 use lib.Seq.{drop-cons}
-use Rattle.lines.specs.Lines.{wroteAll}
+use Rattle.pieces.specs.Pieces.{wroteAll}
 use Rattle.replay_input.specs.Input.{byteOf, spelled}
 
 few : (l : List ℕ) → length l ≤ 1 → spelled l ≡ []

@@ -3,7 +3,8 @@ ghost use mathlib.Core.Path.{_≡_};
 ghost use Prim.Native.Nat.{_<_};
 ghost use lib.ListN.{drop};
 ghost use mathlib.Core.List.{[], _∷_};
-ghost use Rattle.lines.specs.Lines.{page, wroteAll, lineAt};
+ghost use Rattle.pieces.specs.Pieces.{page, wroteAll};
+ghost use Rattle.lines.specs.Lines.{lineAt};
 ghost use Rattle.replay_input.specs.Input.{said, nibbleOf, byteOf, spelled};
 use replay::Line;
 
@@ -48,7 +49,7 @@ fn byte(upper: u8, lower: u8) -> u8
 fn put(x: u8, at: usize, out: &mut [u8]) -> usize
     ensures { λ r. ⌜ page r (now (out .exit)) ≡ wroteAll (page at (now (out .entry))) ((x ∷ []) ∷ []) ⌝ }
 {
-    lines::bytes(&[x], at, out)
+    pieces::bytes(&[x], at, out)
 }
 
 // Writes the bytes that the digits behind a line's letter spell, two digits each. A byte that does not fit is left out.

@@ -5,7 +5,7 @@ use Prim.Native.Nat.{ℕ, _+_, _≤_, _<_}
 use native.Mathlib.Numerals.{add-one}
 use lib.ListN.{length, drop, getD, drop-of-length-le}
 use lib.Seq.{drop-cons}
-use Rattle.lines.specs.Lines.{wrote, wroteAll, newline, hexText}
+use Rattle.pieces.specs.Pieces.{wrote, wroteAll, newline, hexText}
 use Rattle.replay_lines.specs.Answers.{hexLine}
 
 -- whole is what comes out

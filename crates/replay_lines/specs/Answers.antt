@@ -5,7 +5,8 @@ use mathlib.Core.List.{List, [], _∷_, _++_}
 use lib.ListN.{take}
 use lib.Dec.{eqb}
 use Rattle.text.specs.Text.{decimal}
-use Rattle.lines.specs.Lines.{space, newline, row, hexText}
+use Rattle.pieces.specs.Pieces.{space, newline, hexText}
+use Rattle.lines.specs.Lines.{row}
 use Rattle.answers.specs.declared.Answer.{Answer}
 use Rattle.answers.specs.Kinds.{REFUSED, NUMBER, KEY, PAIR, STEP, PLACES, DIGEST, COUNTS, KEPT, IGNORED, REPLACED, TRUTH}
 

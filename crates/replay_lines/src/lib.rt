@@ -4,7 +4,7 @@ ghost use mathlib.Core.List.{[], _∷_};
 ghost use Prim.Native.Nat.{_<_};
 ghost use lib.ListN.{take};
 ghost use Rattle.text.specs.Text.{decimal};
-ghost use Rattle.lines.specs.Lines.{page, wroteAll};
+ghost use Rattle.pieces.specs.Pieces.{page, wroteAll};
 ghost use Rattle.replay_lines.specs.Answers.{isNumber, isKeyed, markOf, key, element, hex16, hex32, hex64, textOf, lineOf, hexLine};
 use answers::Answer;
 use answers::COUNTS;
@@ -29,8 +29,8 @@ fn write_hex16(x: u64, at: usize, out: &mut [u8]) -> usize
     requires { ⌜ x < 65536 ⌝ }
     ensures { λ r. ⌜ page r (now (out .exit)) ≡ wroteAll (page at (now (out .entry))) (hex16 x) ⌝ }
 {
-    let n = lines::hex((x / 256) as u8, at, out);
-    lines::hex((x % 256) as u8, n, out)
+    let n = pieces::hex((x / 256) as u8, at, out);
+    pieces::hex((x % 256) as u8, n, out)
 }
 
 fn write_hex32(x: u64, at: usize, out: &mut [u8]) -> usize
@@ -54,8 +54,8 @@ fn write_hex64(x: u64, at: usize, out: &mut [u8]) -> usize
 fn write_key(k: u64, at: usize, out: &mut [u8]) -> usize
     ensures { λ r. ⌜ page r (now (out .exit)) ≡ wroteAll (page at (now (out .entry))) (key k) ⌝ }
 {
-    let n = lines::number(k % 4_294_967_296, at, out);
-    lines::labelled(b"v", k / 4_294_967_296, n, out)
+    let n = pieces::number(k % 4_294_967_296, at, out);
+    pieces::labelled(b"v", k / 4_294_967_296, n, out)
 }
 
 // A key, its value where it is told, and the place to go on from where that is.
@@ -66,11 +66,11 @@ fn write_element(answer: Answer, at: usize, out: &mut [u8]) -> usize
     if answer.kind == KEY {
         return n;
     }
-    let m = lines::labelled(b" ", answer.b, n, out);
+    let m = pieces::labelled(b" ", answer.b, n, out);
     if answer.kind == PAIR {
         return m;
     }
-    lines::labelled(b" ", answer.c, m, out)
+    pieces::labelled(b" ", answer.c, m, out)
 }
 
 // ---- answers
@@ -115,14 +115,14 @@ fn mark(kind: u64) -> u8
 fn write_mark(kind: u64, at: usize, out: &mut [u8]) -> usize
     ensures { λ r. ⌜ page r (now (out .exit)) ≡ wroteAll (page at (now (out .entry))) ((markOf kind ∷ []) ∷ []) ⌝ }
 {
-    lines::bytes(&[mark(kind)], at, out)
+    pieces::bytes(&[mark(kind)], at, out)
 }
 
 fn write_counts(a: u64, b: u64, at: usize, out: &mut [u8]) -> usize
     ensures { λ r. ⌜ page r (now (out .exit)) ≡ wroteAll (page at (now (out .entry))) (decimal a ∷ (32 ∷ []) ∷ decimal b ∷ []) ⌝ }
 {
-    let n = lines::number(a, at, out);
-    lines::labelled(b" ", b, n, out)
+    let n = pieces::number(a, at, out);
+    pieces::labelled(b" ", b, n, out)
 }
 
 fn write_text(answer: Answer, out: &mut [u8]) -> usize
@@ -130,10 +130,10 @@ fn write_text(answer: Answer, out: &mut [u8]) -> usize
 {
     let kind = answer.kind;
     if kind == REFUSED {
-        return lines::labelled(b"-", answer.a, 0, out);
+        return pieces::labelled(b"-", answer.a, 0, out);
     }
     if is_number(kind) {
-        return lines::number(answer.a, 0, out);
+        return pieces::number(answer.a, 0, out);
     }
     if kind == DIGEST {
         return write_hex64(answer.a, 0, out);
@@ -168,7 +168,7 @@ pub fn write_answer(answer: Answer, places: &[u32], out: &mut [u8]) -> usize
         return lines::named_words(b".", first(places, answer.a as usize), 0, out);
     }
     let n = write_text(answer, out);
-    lines::bytes(b"\n", n, out)
+    pieces::bytes(b"\n", n, out)
 }
 
 // Writes bytes as a line, two hexadecimal digits each.
@@ -178,8 +178,8 @@ pub fn write_image(image: &[u8], out: &mut [u8]) -> usize
     let mut place = 0;
     let mut i = 0;
     while i < image.len() {
-        place = lines::hex(image[i], place, out);
+        place = pieces::hex(image[i], place, out);
         i += 1;
     }
-    lines::bytes(b"\n", place, out)
+    pieces::bytes(b"\n", place, out)
 }

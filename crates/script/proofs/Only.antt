@@ -1,18 +1,12 @@
--- No second outcome of `say` and `run_line`. Assumes nothing.
+-- No second outcome of `run_line`. Assumes nothing.
 use mathlib.Core.Path.{_≡_, refl}
 use mathlib.Core.List.{List}
 use Prim.Native.Nat.{ℕ}
 use Rattle.lists.proofs.Only.{only-both}
 use Rattle.writing.specs.declared.Written.{Written}
-use Rattle.writing.specs.Told.{Told}
-use Rattle.writing.specs.Writing.{outcome}
-use Rattle.writing.proofs.Outcomes.{told-one-to-one, written-only}
+use Rattle.writing.proofs.Outcomes.{told-one-to-one}
 use Rattle.table.specs.Table.{Table}
 use Rattle.script.specs.Script.{Run, ranOf}
-
--- where the line ends, and the buffer
-pub say-only : {x : Told ℕ × List ℕ} {r q : Written} {b d : List ℕ} → outcome r b ≡ x → outcome q d ≡ x → (r ≡ q) × (b ≡ d)
-say-only {x} {r} {q} {b} {d} e f = written-only e f
 
 -- where the line ends, the arrays, the header and the buffer
 pub run-line-only : {x : Run} {r q : Written} {t u : Table} {b d : List ℕ} → ranOf r t b ≡ x → ranOf q u d ≡ x → (r ≡ q) × ((t ≡ u) × (b ≡ d))

@@ -1,56 +1,23 @@
--- A line of a script run on a table, and what is printed for it (the rules, section "Script"). Bytes are ASCII. Assumes nothing.
+-- A line of a script run on a table, its answer in a lent buffer (the rules, section "Script"). Assumes nothing.
 use Prim.Native.Nat.{ℕ, _+_}
 use mathlib.Core.Bool.{cond}
-use mathlib.Core.List.{List, [], _∷_, _++_}
+use mathlib.Core.List.{List}
 use lib.ListN.{length}
 use lib.Dec.{leb}
 use Rattle.lists.specs.Put.{put}
-use Rattle.keys.specs.Keys.{keyOf}
 use Rattle.writing.specs.declared.Written.{Written}
 use Rattle.writing.specs.Told.{Told, tells}
 use Rattle.writing.specs.Writing.{toldOf}
-use Rattle.text.specs.Text.{decimal, keyText}
 use Rattle.writing.specs.Told as told
 use Rattle.table.specs.Table.{Table}
-use Rattle.table.specs.Calls.{Said, said-key, said-value, said-pair, said-done, said-count, said-truth, refused, Out}
+use Rattle.table.specs.Calls.{Out}
 use Rattle.commands.specs.Lines.{asked}
-use Rattle.script_act.specs.Acts.{answered}
+use Rattle.script_look.specs.Answers.{answered}
+use Rattle.script_say.specs.Says.{lineOut, room}
 
 -- "C=1,000"
 abbrev pub capacity : ℕ
 capacity = 1000
-
--- ---- what is printed
-
--- `ok`, and `refused ` with its space
-abbrev pub okText : List ℕ
-okText = 111 ∷ 107 ∷ []
-
-abbrev pub refusedText : List ℕ
-refusedText = 114 ∷ 101 ∷ 102 ∷ 117 ∷ 115 ∷ 101 ∷ 100 ∷ 32 ∷ []
-
-abbrev pub newline : ℕ
-newline = 10
-
--- "success prints key, value, value, value, `ok`, n; refusals print `refused ` and the number"; no line of a script is answered otherwise
-unfoldable pub answerText : Said → List ℕ
-answerText (said-key k) = keyText (keyOf k)
-answerText (said-value x) = decimal x
-answerText said-done = okText
-answerText (said-count m) = decimal m
-answerText (refused r) = refusedText ++ decimal r
-answerText (said-pair k x) = []
-answerText (said-truth b) = []
-
--- "a newline after each"
-unfoldable pub lineOut : Said → List ℕ
-lineOut a = answerText a ++ (newline ∷ [])
-
--- ---- the same in a lent buffer
-
--- the bytes of the longest line that is printed: index and version of ten digits each, `v` and the newline
-abbrev pub room : ℕ
-room = 22
 
 -- where a text was told to end; 0 of a refusal
 abbrev pub endOf : Told ℕ → ℕ
@@ -72,9 +39,3 @@ shown o at b = (tells (at + length (lineOut (o .0))), (o .1, put b at (lineOut (
 -- run, since no call is made that could not be answered: 6, and nothing is done
 unfoldable pub ran : Table → List ℕ → ℕ → List ℕ → Run
 ran t line at b = cond (leb (at + room) (length b)) (shown (answered t (asked line)) at b) (told.refused 6, (t, b))
-
--- ---- for private functions
-
--- an answer's line in the buffer b from a place on, where there is room for it: the place after it, and the buffer with the line put in
-abbrev pub lined : Said → ℕ → List ℕ → Told ℕ × List ℕ
-lined a at b = (tells (at + length (lineOut a)), put b at (lineOut a))

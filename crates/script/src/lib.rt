@@ -1,46 +1,26 @@
 // The lines of a script, run on a table: what a line asks for is done, and the answer is written as one line of text.
 ghost use mathlib.Core.Path.{_≡_};
-ghost use mathlib.Core.List.{[], _∷_, _++_};
 ghost use Prim.Native.Nat.{_+_, _≤_};
 ghost use lib.Dec.{leb};
-ghost use lib.ListN.{length};
-ghost use Rattle.refusal.specs.Refusals.{numberOf};
-ghost use Rattle.writing.specs.Writing.{toldOf, outcome, written, writtenAfter};
-ghost use Rattle.text.specs.Text.{decimal};
+ghost use Rattle.writing.specs.Writing.{toldOf};
 ghost use Rattle.dense.specs.Lent.{before, after};
-ghost use Rattle.script_act.specs.Acts.{answerSaid};
-ghost use Rattle.script.specs.Script.{refusedText, newline, lineOut, room, endOf, ranOf, ran, lined};
+ghost use Rattle.script_say.specs.Says.{room};
+ghost use Rattle.script.specs.Script.{endOf, ranOf, ran};
 use commands::parse;
-use keys::KeyData;
 use refusal::Refusal;
-use script_act::Answer;
 use script_act::act;
+use script_say::ROOM;
+use script_say::say;
 use table::Header;
-use text::write_decimal;
-use text::write_key;
 use writing::Written;
-use writing::write_bytes;
 
 // How many elements the script's table may have.
 pub const CAPACITY: usize = 1000;
-
-// How many bytes the longest line of output has: an index and a version of ten digits each, the letter and the newline.
-pub const ROOM: usize = 22;
 
 // The header after a line, and where the text of its answer ends.
 pub struct Ran {
     pub header: Header,
     pub end: Written,
-}
-
-// The newline after a text, unless the text was refused.
-fn end_line(w: Written, out: &mut [u8]) -> Written
-    ensures { λ r. ⌜ outcome r (now (out .exit)) ≡ writtenAfter (toldOf w) (newline ∷ []) (now (out .entry)) ⌝ }
-{
-    match w {
-        Written::End(n) => write_bytes(b"\n", n, out),
-        Written::Refused(r) => Written::Refused(r),
-    }
 }
 
 // Whether the longest line fits from a place on into a buffer of this size. The place and the room are never added: their sum may not fit a usize.
@@ -51,61 +31,6 @@ fn has_room(at: usize, size: usize) -> bool
         return false;
     }
     ROOM <= size - at
-}
-
-// A refusal's text.
-fn write_refusal(refusal: Refusal, at: usize, out: &mut [u8]) -> Written
-    requires { ⌜ at + room ≤ length (now out) ⌝ }
-    ensures { λ r. ⌜ outcome r (now (out .exit)) ≡ written at (refusedText ++ decimal (numberOf refusal)) (now (out .entry)) ⌝ }
-{
-    match write_bytes(b"refused ", at, out) {
-        Written::End(n) => {
-            let number = refusal.number();
-            write_decimal(number as u64, n, out)
-        }
-        Written::Refused(r) => Written::Refused(r),
-    }
-}
-
-// Writes an answer as one line, from a place of a buffer that has the room on.
-fn write_line(answer: Answer, at: usize, out: &mut [u8]) -> Written
-    requires { ⌜ at + room ≤ length (now out) ⌝ }
-    ensures { λ r. ⌜ (outcome r (now (out .exit)) ≡ lined (answerSaid answer) at (now (out .entry))) × (length (lineOut (answerSaid answer)) ≤ room) ⌝ }
-{
-    match answer {
-        Answer::Key(k) => {
-            let w = write_key(KeyData::from_ffi(k), at, out);
-            end_line(w, out)
-        }
-        Answer::Value(x) => {
-            let w = write_decimal(x, at, out);
-            end_line(w, out)
-        }
-        Answer::Done => {
-            let w = write_bytes(b"ok", at, out);
-            end_line(w, out)
-        }
-        Answer::Count(n) => {
-            let w = write_decimal(n as u64, at, out);
-            end_line(w, out)
-        }
-        Answer::Refused(r) => {
-            let w = write_refusal(r, at, out);
-            end_line(w, out)
-        }
-    }
-}
-
-// Writes an answer as one line, from a place of a buffer on. The line is made beside the buffer, since one that does not fit leaves the buffer
-// as it was.
-pub fn say(answer: Answer, at: usize, out: &mut [u8]) -> Written
-    ensures { λ r. ⌜ outcome r (now (out .exit)) ≡ written at (lineOut (answerSaid answer)) (now (out .entry)) ⌝ }
-{
-    let mut line = [0u8; ROOM];
-    match write_line(answer, 0, &mut line) {
-        Written::End(n) => write_bytes(&line[..n], at, out),
-        Written::Refused(r) => Written::Refused(r),
-    }
 }
 
 // Runs one line, given without its newline, and writes its answer from a place of a buffer on. The room for the longest answer is judged
@@ -133,6 +58,6 @@ pub fn run_line(
     let a = did.answer;
     Ran {
         header: g,
-        end: write_line(a, at, out),
+        end: say(a, at, out),
     }
 }

@@ -1,44 +1,37 @@
 -- What a command does, by its kind: the table's own call. Assumes nothing.
-use mathlib.Core.Path.{_≡_, sym, ap}
+use mathlib.Core.Path.{_≡_, ap, _∙_}
+use mathlib.Core.List.{List}
 use Prim.Native.Nat.{ℕ}
-use Rattle.refusal.specs.declared.Refusal.{Refusal}
-use Rattle.refusal.specs.Refusals.{numberOf}
+use Rattle.table.specs.declared.Header.{Header}
 use Rattle.table.specs.Table.{Table}
-use Rattle.table.specs.Calls.{Said, refused, len, lookup, insert, remove, detach, reattach}
+use Rattle.table.specs.Calls.{Said, insert, remove, detach, reattach}
 use Rattle.table.specs.Steps.{step}
-use Rattle.table.proofs.Frames.{frame-lookup}
 use Rattle.commands.specs.declared.Command.{Command}
-use Rattle.commands.specs.declared.Command.the-variants.{Insert, Get, Remove, Detach, Reattach, Len, Refused}
+use Rattle.commands.specs.declared.Command.the-variants.{Insert, Remove, Detach, Reattach}
 use Rattle.commands.specs.Lines.{askedOf}
+use Rattle.dense.specs.Lent.{table}
 use Rattle.dense.specs.Answers.{outcome}
-use Rattle.script_act.specs.Acts.{answered}
+use Rattle.script_look.specs.Answers.{answered}
+use Rattle.script_act.specs.Acts.{told}
 
-module _ {c : Command} (t : Table) {s q : Said} where
-  pub acts-insert : {u : Table} {x : ℕ} → c ≡ Insert x → s ≡ q → outcome q u ≡ insert t x → outcome s u ≡ answered t (askedOf c)
+-- the same answer beside the same header
+pub same-told : {q s : Said} {h : Header} → q ≡ s → told s h ≡ told q h
+same-told e = rw e
+
+-- the answer and the header, told over arrays that they leave
+module _ {c : Command} (t : Table) (vs ls ks xs : List ℕ) {s q : Said} {h g : Header} (f : told s h ≡ told q g) where
+  pub acts-insert : {x : ℕ} → c ≡ Insert x → outcome q (table vs ls ks xs g) ≡ insert t x → outcome s (table vs ls ks xs h) ≡ answered t (askedOf c)
   unfolding answered step
-  acts-insert e f g = rw (e, f) g
+  acts-insert e d = rw e (ap (λ (o : Said × Header). outcome (o .0) (table vs ls ks xs (o .1))) f ∙ d)
 
-  pub acts-remove : {u : Table} {k : ℕ} → c ≡ Remove k → s ≡ q → outcome q u ≡ remove t k → outcome s u ≡ answered t (askedOf c)
+  pub acts-remove : {k : ℕ} → c ≡ Remove k → outcome q (table vs ls ks xs g) ≡ remove t k → outcome s (table vs ls ks xs h) ≡ answered t (askedOf c)
   unfolding answered step
-  acts-remove e f g = rw (e, f) g
+  acts-remove e d = rw e (ap (λ (o : Said × Header). outcome (o .0) (table vs ls ks xs (o .1))) f ∙ d)
 
-  pub acts-detach : {u : Table} {k : ℕ} → c ≡ Detach k → s ≡ q → outcome q u ≡ detach t k → outcome s u ≡ answered t (askedOf c)
+  pub acts-detach : {k : ℕ} → c ≡ Detach k → outcome q (table vs ls ks xs g) ≡ detach t k → outcome s (table vs ls ks xs h) ≡ answered t (askedOf c)
   unfolding answered step
-  acts-detach e f g = rw (e, f) g
+  acts-detach e d = rw e (ap (λ (o : Said × Header). outcome (o .0) (table vs ls ks xs (o .1))) f ∙ d)
 
-  pub acts-reattach : {u : Table} {k x : ℕ} → c ≡ Reattach k x → s ≡ q → outcome q u ≡ reattach t k x → outcome s u ≡ answered t (askedOf c)
+  pub acts-reattach : {k x : ℕ} → c ≡ Reattach k x → outcome q (table vs ls ks xs g) ≡ reattach t k x → outcome s (table vs ls ks xs h) ≡ answered t (askedOf c)
   unfolding answered step
-  acts-reattach e f g = rw (e, f) g
-
-  -- the calls that only look
-  pub acts-get : {k : ℕ} → c ≡ Get k → s ≡ q → q ≡ lookup t k .0 → outcome s t ≡ answered t (askedOf c)
-  unfolding answered step
-  acts-get {k} e f g = rw (e, f, g) (ap (outcome (lookup t k .0)) (sym (frame-lookup t k)))
-
-  pub acts-len : c ≡ Len → s ≡ q → q ≡ len t → outcome s t ≡ answered t (askedOf c)
-  unfolding answered
-  acts-len e f g = rw (e, f, g)
-
-pub acts-refused : {c : Command} (t : Table) {r : Refusal} → c ≡ Refused r → outcome (refused (numberOf r)) t ≡ answered t (askedOf c)
-unfolding answered
-acts-refused t e = rw e
+  acts-reattach e d = rw e (ap (λ (o : Said × Header). outcome (o .0) (table vs ls ks xs (o .1))) f ∙ d)

@@ -1,70 +1,80 @@
-// What a script's commands do to a table: each is one of its calls, or asks for the number of its elements.
+// What a script's commands do to a table: each is one of its calls, or only looks.
 ghost use mathlib.Core.Path.{_≡_};
 ghost use Rattle.dense.specs.Lent.{before, after};
-ghost use Rattle.dense.specs.Answers.{outcome, valueSaid, issuedSaid, countSaid, doneSaid};
+ghost use Rattle.dense.specs.Answers.{outcome, valueSaid, issuedSaid, doneSaid};
 ghost use Rattle.commands.specs.Lines.{askedOf};
-ghost use Rattle.script_act.specs.Acts.{answerSaid, answered};
+ghost use Rattle.script_look.specs.Answers.{answerSaid, answered};
+ghost use Rattle.script_act.specs.Acts.{told, toldOf};
 use commands::Command;
-use dense::Counted;
+use dense::Changed;
 use dense::Found;
 use dense::Issued;
 use dense::Verdict;
+use dense_enter::Inserted;
 use dense_enter::insert;
+use dense_leave::Removed;
 use dense_leave::detach;
 use dense_leave::remove;
-use dense_look::len;
-use dense_look::lookup;
 use dense_reattach::reattach;
-use refusal::Refusal;
+use script_look::Answer;
+use script_look::look;
 use table::Header;
 
-// What a command answers.
-pub enum Answer {
-    Key(u64),
-    Value(u64),
-    Done,
-    Count(u32),
-    Refused(Refusal),
-}
-
+// The header after a command, and its answer.
 pub struct Acted {
     pub header: Header,
     pub answer: Answer,
 }
 
-fn of_key(issued: Issued) -> Answer
-    ensures { λ r. ⌜ answerSaid r ≡ issuedSaid issued ⌝ }
+// What a call of the table hands back, as a command's answer.
+fn of_inserted(did: Inserted) -> Acted
+    ensures { λ r. ⌜ toldOf r ≡ told (issuedSaid (did .answer)) (did .header) ⌝ }
 {
+    let header = did.header;
+    let issued = did.answer;
     match issued {
-        Issued::Key(k) => Answer::Key(k),
-        Issued::Refused(r) => Answer::Refused(r),
+        Issued::Key(k) => Acted {
+            header,
+            answer: Answer::Key(k),
+        },
+        Issued::Refused(r) => Acted {
+            header,
+            answer: Answer::Refused(r),
+        },
     }
 }
 
-fn of_value(found: Found) -> Answer
-    ensures { λ r. ⌜ answerSaid r ≡ valueSaid found ⌝ }
+fn of_removed(did: Removed) -> Acted
+    ensures { λ r. ⌜ toldOf r ≡ told (valueSaid (did .answer)) (did .header) ⌝ }
 {
+    let header = did.header;
+    let found = did.answer;
     match found {
-        Found::Value(x) => Answer::Value(x),
-        Found::Refused(r) => Answer::Refused(r),
+        Found::Value(x) => Acted {
+            header,
+            answer: Answer::Value(x),
+        },
+        Found::Refused(r) => Acted {
+            header,
+            answer: Answer::Refused(r),
+        },
     }
 }
 
-fn of_verdict(verdict: Verdict) -> Answer
-    ensures { λ r. ⌜ answerSaid r ≡ doneSaid verdict ⌝ }
+fn of_changed(did: Changed) -> Acted
+    ensures { λ r. ⌜ toldOf r ≡ told (doneSaid (did .answer)) (did .header) ⌝ }
 {
+    let header = did.header;
+    let verdict = did.answer;
     match verdict {
-        Verdict::Done => Answer::Done,
-        Verdict::Refused(r) => Answer::Refused(r),
-    }
-}
-
-fn of_count(counted: Counted) -> Answer
-    ensures { λ r. ⌜ answerSaid r ≡ countSaid counted ⌝ }
-{
-    match counted {
-        Counted::Count(n) => Answer::Count(n),
-        Counted::Refused(r) => Answer::Refused(r),
+        Verdict::Done => Acted {
+            header,
+            answer: Answer::Done,
+        },
+        Verdict::Refused(r) => Acted {
+            header,
+            answer: Answer::Refused(r),
+        },
     }
 }
 
@@ -80,53 +90,13 @@ pub fn act(
     ensures { λ r. ⌜ outcome (answerSaid (r .answer)) (after versions links keys values (r .header)) ≡ answered (before versions links keys values h) (askedOf command) ⌝ }
 {
     match command {
-        Command::Insert(x) => {
-            let did = insert(h, versions, links, keys, values, x);
-            let g = did.header;
-            let a = did.answer;
-            Acted {
-                header: g,
-                answer: of_key(a),
-            }
-        }
-        Command::Get(k) => Acted {
+        Command::Insert(x) => of_inserted(insert(h, versions, links, keys, values, x)),
+        Command::Remove(k) => of_removed(remove(h, versions, links, keys, values, k)),
+        Command::Detach(k) => of_removed(detach(h, versions, links, keys, values, k)),
+        Command::Reattach(k, x) => of_changed(reattach(h, versions, links, keys, values, k, x)),
+        Command::Get(_) | Command::Len | Command::Refused(_) => Acted {
             header: h,
-            answer: of_value(lookup(h, versions, links, keys, values, k)),
-        },
-        Command::Remove(k) => {
-            let did = remove(h, versions, links, keys, values, k);
-            let g = did.header;
-            let a = did.answer;
-            Acted {
-                header: g,
-                answer: of_value(a),
-            }
-        }
-        Command::Detach(k) => {
-            let did = detach(h, versions, links, keys, values, k);
-            let g = did.header;
-            let a = did.answer;
-            Acted {
-                header: g,
-                answer: of_value(a),
-            }
-        }
-        Command::Reattach(k, x) => {
-            let did = reattach(h, versions, links, keys, values, k, x);
-            let g = did.header;
-            let a = did.answer;
-            Acted {
-                header: g,
-                answer: of_verdict(a),
-            }
-        }
-        Command::Len => Acted {
-            header: h,
-            answer: of_count(len(h, versions, links, keys, values)),
-        },
-        Command::Refused(r) => Acted {
-            header: h,
-            answer: Answer::Refused(r),
+            answer: look(h, versions, links, keys, values, command),
         },
     }
 }

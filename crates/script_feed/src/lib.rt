@@ -1,19 +1,18 @@
 // A script's input, read part by part: bytes are held until a newline ends their line, which is then run. Where the parts are cut changes nothing.
 ghost use mathlib.Core.Path.{_≡_};
 ghost use Prim.Native.Nat.{_+_, _≤_};
+ghost use Rattle.writing.specs.Writing.{toldOf};
 ghost use Rattle.dense.specs.Lent.{before, after};
-ghost use Rattle.script.specs.Script.{room};
-ghost use Rattle.script_input.specs.Machine.{machine, stepOf, closed, took, isReadyFor, fedOf, fed, finished};
+ghost use Rattle.script_say.specs.Says.{room};
+ghost use Rattle.script.specs.Script.{endOf};
+ghost use Rattle.script_input.specs.Machine.{machine, stepOf, closed, took, fedOf, fed, finished};
 ghost use Rattle.script_input.specs.Ready.{Ready};
-use commands::LONGEST;
 use refusal::Refusal;
-use script::ROOM;
 use script::run_line;
+use script_ready::HELD;
+use script_ready::ready;
 use table::Header;
 use writing::Written;
-
-// How many bytes of a line are held: one more than a line may have, so that a longer one shows.
-pub const HELD: usize = LONGEST + 1;
 
 const NEWLINE: u8 = b'\n';
 
@@ -31,18 +30,14 @@ struct Step {
     end: usize,
 }
 
-// Whether the line's buffer is long enough and the count within it, and the output has room for so many answers. The rooms are never added up:
-// their sum may not fit a usize.
-fn ready(count: usize, line: usize, answers: usize, out: usize) -> bool
-    ensures { λ r. ⌜ r ≡ isReadyFor count line answers out ⌝ }
+// The place where a text ended; 0 of a refusal, which no line gets that has its room.
+fn end_of(w: Written) -> usize
+    ensures { λ r. ⌜ r ≡ endOf (toldOf w) ⌝ }
 {
-    if line < HELD {
-        return false;
+    match w {
+        Written::End(n) => n,
+        Written::Refused(_) => 0,
     }
-    if HELD < count {
-        return false;
-    }
-    answers <= out / ROOM
 }
 
 // Runs the line that is held.
@@ -63,17 +58,10 @@ fn close(
     let ran = run_line(h, versions, links, keys, values, &line[..count], at, out);
     let g = ran.header;
     let end = ran.end;
-    match end {
-        Written::End(n) => Step {
-            header: g,
-            count: 0,
-            end: n,
-        },
-        Written::Refused(_) => Step {
-            header: g,
-            count: 0,
-            end: at,
-        },
+    Step {
+        header: g,
+        count: 0,
+        end: end_of(end),
     }
 }
 

@@ -16,8 +16,8 @@ use Rattle.table.specs.Table.{Table}
 use Rattle.table.specs.Calls.{Out}
 use Rattle.commands.specs.Lines.{longest, asked}
 use Rattle.commands.proofs.Lines.{asked-long}
-use Rattle.script_act.specs.Acts.{answered}
-use Rattle.script.specs.Script.{newline, lineOut, room}
+use Rattle.script_look.specs.Answers.{answered}
+use Rattle.script_say.specs.Says.{newline, lineOut, room}
 use Rattle.script_input.specs.Input.{lastLine, linesFrom, ahead, printedLines, printed}
 use Rattle.script_input.specs.Machine.{held, Machine, machine, begun, Step, closed, took, tookAll, isReady, Fed, saidBy, areWithin, fedAll}
 use Rattle.script_input.proofs.Steps.{took-newline, took-held, took-past, ready-from, fed-ready, finished-empty, finished-line}

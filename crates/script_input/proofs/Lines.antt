@@ -7,7 +7,7 @@ use lib.Dec.{eqb}
 use borrow.Author.Tests.{eq-eqb, ne-eqb}
 use Rattle.lists.specs.Among.{among}
 use Rattle.lists.proofs.Tests.{split, true-false}
-use Rattle.script.specs.Script.{newline}
+use Rattle.script_say.specs.Says.{newline}
 use Rattle.script_input.specs.Input.{linesFrom, lines}
 
 -- bytes without a newline are held

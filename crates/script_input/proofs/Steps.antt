@@ -10,14 +10,11 @@ use lib.Seq.{drop-cons}
 use lib.Dec.{leb, ltb, eqb}
 use borrow.Author.Tests.{leb-true, ltb-true, ltb-false, eqb-true, eqb-false, le-leb, lt-leb, lt-ltb, le-ltb, eq-eqb, ne-eqb}
 use Rattle.lists.proofs.Tests.{split, and-left, and-right, same-test}
-use Rattle.refusal.specs.declared.Refusal.{Refusal}
-use Rattle.writing.specs.declared.Written.{Written}
-use Rattle.writing.specs.declared.Written.the-variants.{End, Refused}
-use Rattle.writing.specs.Told.{tells, refused}
-use Rattle.writing.specs.Writing.{toldOf}
+use Rattle.writing.specs.Told.{Told, tells, refused}
 use Rattle.table.specs.Table.{Table}
-use Rattle.script.specs.Script.{newline, room, endOf, Run, ranOf, ran}
-use Rattle.script.proofs.Says.{ran-fits}
+use Rattle.script_say.specs.Says.{newline, room}
+use Rattle.script.specs.Script.{endOf, Run, ran}
+use Rattle.script.proofs.Runs.{ran-fits}
 use Rattle.script_input.specs.Machine.{held, Machine, machine, begun, Step, stepOf, closed, took, tookAll, isReadyFor, isReady, Fed, ending, fed, finished}
 use Rattle.script_input.specs.Ready.{Ready}
 
@@ -52,25 +49,15 @@ module _ (count line answers out : ℕ) where
 
 -- ---- one byte
 
-pub ends-within : {w : Written} {n k : ℕ} → w ≡ End n → endOf (toldOf w) ≤ k → n ≤ k
-ends-within e h = rw e at h
-
--- where there is room, no line's outcome is a refusal
-pub closes-always : (t u : Table) (line : List ℕ) (at : ℕ) (b d : List ℕ) {w : Written} {r : Refusal} → at + room ≤ length b
-    → ranOf w u d ≡ ran t line at b → w ≡ Refused r → ⊥
-closes-always t u line at b d {w} fits runs e =
-    let z : _≡_ {A = ℕ} 0 1 = cc (ap (λ (p : Run). p .0) (ap (λ (x : Written). ranOf x u d) (sym e) ∙ runs ∙ ran-fits t line at b (le-leb _ _ fits))) in
-    omega arith
-
 module _ (m : Machine) (at : ℕ) where
   -- a line's outcome as a step of the machine
   abbrev asStep : Run → Step
   asStep p = (endOf (p .0), machine (p .1 .0) 0 (m .line) (p .1 .1))
 
-  module _ (t : Table) (d : List ℕ) {w : Written} (fits : at + room ≤ length (m .out)) (runs : ranOf w t d ≡ ran (m .table) (begun m) at (m .out)) where
-    pub closes : {n : ℕ} → w ≡ End n → stepOf n (machine t 0 (m .line) d) ≡ closed m at
+  module _ (t : Table) (d : List ℕ) {w : Told ℕ} (fits : at + room ≤ length (m .out)) (runs : _≡_ {A = Run} (w, (t, d)) (ran (m .table) (begun m) at (m .out))) where
+    pub closes : {n : ℕ} → n ≡ endOf w → stepOf n (machine t 0 (m .line) d) ≡ closed m at
     unfolding closed
-    closes e = ap asStep (ap (λ (x : Written). ranOf x t d) (sym e) ∙ runs ∙ ran-fits (m .table) (begun m) at (m .out) (le-leb _ _ fits))
+    closes e = rw e (ap asStep (runs ∙ ran-fits (m .table) (begun m) at (m .out) (le-leb _ _ fits)))
 
   pub took-newline : (b : ℕ) → b ≡ newline → closed m at ≡ took m at b
   unfolding took

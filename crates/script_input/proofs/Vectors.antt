@@ -9,8 +9,8 @@ use Rattle.table.specs.Calls.{freshHead, fresh, freshTable, len, placeIn, place
 use Rattle.table.specs.Steps.{step}
 use Rattle.fields.specs.Fields.{numberAt, fieldAt}
 use Rattle.commands.specs.Lines.{keyIn, asked}
-use Rattle.script_act.specs.Acts.{answered}
-use Rattle.script.specs.Script.{answerText, lineOut}
+use Rattle.script_look.specs.Answers.{answered}
+use Rattle.script_say.specs.Says.{answerText, lineOut}
 use Rattle.script_input.specs.Input.{linesFrom, printedLines, printed}
 
 table : Table

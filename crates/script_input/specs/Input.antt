@@ -6,8 +6,8 @@ use lib.Dec.{eqb}
 use Rattle.table.specs.Table.{Table}
 use Rattle.table.specs.Steps.{Call}
 use Rattle.commands.specs.Lines.{Asked, asks, asks-len, rejects, asked}
-use Rattle.script_act.specs.Acts.{answered}
-use Rattle.script.specs.Script.{newline, lineOut}
+use Rattle.script_look.specs.Answers.{answered}
+use Rattle.script_say.specs.Says.{newline, lineOut}
 
 -- the last line, where the bytes p came after the last newline: "the last may lack it"; where none came there is no line
 abbrev pub lastLine : List ℕ → List (List ℕ)

@@ -11,8 +11,9 @@ use Rattle.writing.specs.Writing.{toldOf}
 use Rattle.table.specs.Table.{Table}
 use Rattle.table.specs.Calls.{Out}
 use Rattle.commands.specs.Lines.{longest, asked}
-use Rattle.script_act.specs.Acts.{answered}
-use Rattle.script.specs.Script.{newline, lineOut, room, endOf}
+use Rattle.script_look.specs.Answers.{answered}
+use Rattle.script_say.specs.Says.{newline, lineOut, room}
+use Rattle.script.specs.Script.{endOf}
 
 -- how many bytes of a line are held: one more than a line may have, so that a longer one shows
 abbrev pub held : ℕ

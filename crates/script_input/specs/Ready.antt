@@ -2,7 +2,7 @@
 use Prim.Native.Nat.{ℕ, _+_, _≤_}
 use mathlib.Core.List.{List}
 use lib.ListN.{length}
-use Rattle.script.specs.Script.{room}
+use Rattle.script_say.specs.Says.{room}
 use Rattle.script_input.specs.Machine.{held}
 
 pub record Ready (count : ℕ) (line : List ℕ) (at : ℕ) (out : List ℕ) : Type 0 where

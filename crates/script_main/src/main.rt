@@ -6,10 +6,10 @@ use libc::STDERR_FILENO;
 use libc::STDIN_FILENO;
 use libc::STDOUT_FILENO;
 use script::CAPACITY;
-use script::ROOM;
-use script_feed::HELD;
 use script_feed::feed;
 use script_feed::finish;
+use script_ready::HELD;
+use script_say::ROOM;
 use table::Header;
 use writing::Written;
 

@@ -1,8 +1,8 @@
 -- `line` writes the newline behind the text. Assumes nothing.
 use mathlib.Core.List.{[], _∷_}
 use borrow.Author.Needs.{needs}
-use Rattle.lines.specs.Lines.{newline}
-use Rattle.lines.proofs.Lines.{wroteAll-then}
+use Rattle.pieces.specs.Pieces.{newline}
+use Rattle.pieces.proofs.Pieces.{wroteAll-then}
 use Rattle.answer_lines.specs.Answers.{textOf}
 use Rattle.answer_lines.proofs.line.Statement.{statement}
 use Rattle.answer_lines.proofs.line.Tie as tie

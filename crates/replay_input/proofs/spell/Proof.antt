@@ -3,7 +3,7 @@ use mathlib.Core.Path.{_≡_, refl}
 use Prim.Native.Nat.{_≤_, _-_, _+_}
 use lib.ListN.{length, drop}
 use borrow.Author.Needs.{needs}
-use Rattle.lines.specs.Lines.{page, wroteAll}
+use Rattle.pieces.specs.Pieces.{page, wroteAll}
 use Rattle.replay_input.specs.Input.{spelled}
 use Rattle.replay_input.proofs.Spelled.{spelled-turn, spelled-end}
 use Rattle.replay_input.proofs.spell.Statement.{statement}

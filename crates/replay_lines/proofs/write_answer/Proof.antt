@@ -2,8 +2,8 @@
 use mathlib.Core.List.{[], _∷_}
 use borrow.Author.Needs.{needs}
 use borrow.Author.Tests.{eq-eqb, ne-eqb}
-use Rattle.lines.specs.Lines.{newline}
-use Rattle.lines.proofs.Lines.{wroteAll-then}
+use Rattle.pieces.specs.Pieces.{newline}
+use Rattle.pieces.proofs.Pieces.{wroteAll-then}
 use Rattle.replay_lines.specs.Answers.{textOf, lineOf}
 use Rattle.replay_lines.proofs.write_answer.Statement.{statement}
 use Rattle.replay_lines.proofs.write_answer.Tie as tie

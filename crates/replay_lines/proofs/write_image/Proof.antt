@@ -3,7 +3,7 @@ use mathlib.Core.Path.{_≡_, refl}
 use Prim.Native.Nat.{_≤_, _-_}
 use lib.ListN.{length, drop}
 use borrow.Author.Needs.{needs}
-use Rattle.lines.specs.Lines.{page, wroteAll}
+use Rattle.pieces.specs.Pieces.{page, wroteAll}
 use Rattle.replay_lines.specs.Answers.{hexLine}
 use Rattle.replay_lines.proofs.Images.{hex-turn, hex-end}
 use Rattle.replay_lines.proofs.write_image.Statement.{statement}

@@ -4,7 +4,7 @@ use Prim.Native.Nat.{_+_, _-_}
 use native.Mathlib.Omega.{arith}
 use borrow.Author.Tests.{leb-true, le-leb, lt-leb}
 use Rattle.lists.proofs.Tests.{same-test}
-use Rattle.script.specs.Script.{room}
+use Rattle.script_say.specs.Says.{room}
 use Rattle.script.proofs.has_room.Statement.{statement}
 use Rattle.script.proofs.has_room.Tie as tie
 

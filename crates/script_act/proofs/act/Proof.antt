@@ -1,29 +1,24 @@
 -- `act` hands each command to the call of its kind. Assumes nothing.
 use borrow.Author.Needs.{needs}
-use Rattle.script_act.proofs.Acts.{acts-insert, acts-remove, acts-detach, acts-reattach, acts-get, acts-len, acts-refused}
+use Rattle.script_look.proofs.Looks.{acts-looked}
+use Rattle.script_act.proofs.Acts.{acts-insert, acts-remove, acts-detach, acts-reattach}
 use Rattle.script_act.proofs.act.Statement.{statement}
 use Rattle.script_act.proofs.act.Tie as tie
 
 returns : tie.Need-returns
-returns c = acts-insert _ (c .before .before .before .before .before .before .before .before .before .before .before .before .before .before .before .before .command .given .1) (c .of-key .ensures) (c .before .before .before .before .before .before .before .before .before .before .insert .ensures)
+returns c = acts-insert _ _ _ _ _ (c .of-inserted .ensures) (c .before .before .before .before .before .before .before .before .before .before .before .before .before .before .before .command .given .1) (c .before .before .before .before .before .before .before .before .before .insert .ensures)
 
 returns-2 : tie.Need-returns-2
-returns-2 c = acts-get _ (c .before .before .before .before .before .before .before .command2 .given .1) (c .of-value .ensures) (c .before .lookup .ensures)
+returns-2 c = acts-remove _ _ _ _ _ (c .of-removed .ensures) (c .before .before .before .before .before .before .before .before .before .before .before .before .before .before .before .command2 .given .1) (c .before .before .before .before .before .before .before .before .before .remove .ensures)
 
 returns-3 : tie.Need-returns-3
-returns-3 c = acts-remove _ (c .before .before .before .before .before .before .before .before .before .before .before .before .before .before .before .before .command3 .given .1) (c .of-value2 .ensures) (c .before .before .before .before .before .before .before .before .before .before .remove .ensures)
+returns-3 c = acts-detach _ _ _ _ _ (c .of-removed2 .ensures) (c .before .before .before .before .before .before .before .before .before .before .before .before .before .before .before .command3 .given .1) (c .before .before .before .before .before .before .before .before .before .detach .ensures)
 
 returns-4 : tie.Need-returns-4
-returns-4 c = acts-detach _ (c .before .before .before .before .before .before .before .before .before .before .before .before .before .before .before .before .command4 .given .1) (c .of-value3 .ensures) (c .before .before .before .before .before .before .before .before .before .before .detach .ensures)
+returns-4 c = acts-reattach _ _ _ _ _ (c .of-changed .ensures) (c .before .before .before .before .before .before .before .before .before .before .before .before .before .before .before .command4 .given .1) (c .before .before .before .before .before .before .before .before .before .reattach .ensures)
 
 returns-5 : tie.Need-returns-5
-returns-5 c = acts-reattach _ (c .before .before .before .before .before .before .before .before .before .before .before .before .before .before .before .before .command5 .given .1) (c .of-verdict .ensures) (c .before .before .before .before .before .before .before .before .before .before .reattach .ensures)
-
-returns-6 : tie.Need-returns-6
-returns-6 c = acts-len _ (c .before .before .before .before .before .before .enum-told .given .1) (c .of-count .ensures) (c .before .len .ensures)
-
-returns-7 : tie.Need-returns-7
-returns-7 c = acts-refused _ (c .before .command6 .given .1)
+returns-5 c = acts-looked _ _ (c .look .ensures) (c .before .before .before .before .before .match .keys5)
 
 pub act-spec : {M : Type 1} → statement M
 act-spec =
@@ -41,13 +36,7 @@ act-spec =
     (λ c. search needs)
     (λ c κs. search needs)
     (λ c κs. search needs)
-    (λ c. search needs)
     (λ c κs. search needs)
-    (λ c κs. search needs)
-    (λ c. search needs)
-    (λ c κs. search needs)
-    (λ c κs. search needs)
-    (λ c. search needs)
     (λ c. search needs)
     (λ c. search needs)
     (λ c. search needs)
@@ -72,10 +61,4 @@ act-spec =
     (λ c. search needs)
     (λ c. search needs)
     (λ c. search needs)
-    returns-5
-    (λ c. search needs)
-    (λ c. search needs)
-    (λ c. search needs)
-    (λ c. search needs)
-    returns-6
-    returns-7)
+    returns-5)

@@ -3,7 +3,7 @@ use mathlib.Core.Path.{sym}
 use native.Mathlib.Omega.{arith}
 use lib.Seq.{length-take-le}
 use borrow.Author.Needs.{needs}
-use Rattle.script_input.proofs.Steps.{ends-within, closes, closes-always}
+use Rattle.script_input.proofs.Steps.{closes}
 use Rattle.script_feed.proofs.close.Statement.{statement}
 use Rattle.script_feed.proofs.close.Tie as tie
 
@@ -14,13 +14,8 @@ slice-aggregate-run-line c =
 
 returns : tie.Need-returns
 returns c =
-    let ran = c .before .before .before .before .before .before .before .before .before .before .before .before .before .before in
-    (closes _ _ _ _ (ran .before .before .before .before .before .before .before .before .before .before .before .before .before .pre .roomy) (ran .run-line .ensures .0) (c .before .end .given .1), ends-within (c .before .end .given .1) (ran .run-line .ensures .1))
-
-returns-2 : tie.Need-returns-2
-returns-2 c =
-    let ran = c .before .before .before .before .before .before .before .before .before .before .before .before .before in
-    absurd (closes-always _ _ _ _ _ _ (ran .before .before .before .before .before .before .before .before .before .before .before .before .before .pre .roomy) (ran .run-line .ensures .0) (c .enum-told .given .1))
+    let ran = c .before .before .before .before .before .before .before .before .before .before .before .before in
+    (closes _ _ _ _ (ran .before .before .before .before .before .before .before .before .before .before .before .before .before .pre .roomy) (ran .run-line .ensures .0) (c .end-of .ensures), omega (arith, c .end-of .ensures, ran .run-line .ensures .1))
 
 pub close-spec : {M : Type 1} → statement M
 close-spec =
@@ -28,17 +23,10 @@ close-spec =
     (tie.spec
     slice-aggregate-run-line
     (λ c κs. search needs)
+    (λ c κs. search needs)
     (λ c. search needs)
     (λ c. search needs)
     (λ c. search needs)
     (λ c. search needs)
     (λ c. search needs)
-    (λ c. search needs)
-    (λ c. search needs)
-    returns
-    (λ c. search needs)
-    (λ c. search needs)
-    (λ c. search needs)
-    (λ c. search needs)
-    (λ c. search needs)
-    returns-2)
+    returns)

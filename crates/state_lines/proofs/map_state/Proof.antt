@@ -3,7 +3,7 @@ use mathlib.Core.List.{_∷_, _++_}
 use borrow.Author.Needs.{needs}
 use Rattle.text.specs.Text.{decimal}
 use Rattle.lines.specs.Lines.{row}
-use Rattle.lines.proofs.Lines.{wroteAll-then}
+use Rattle.pieces.proofs.Pieces.{wroteAll-then}
 use Rattle.answers.specs.Kinds.{answered, MAP-HEADER}
 use Rattle.answer_lines.specs.Answers.{lineOf}
 use Rattle.state_lines.specs.States.{versionsText, valuesText}

@@ -3,7 +3,8 @@ use mathlib.Core.Path.{_≡_, refl}
 use Prim.Native.Nat.{_≤_, _-_}
 use lib.ListN.{length, drop}
 use borrow.Author.Needs.{needs}
-use Rattle.lines.specs.Lines.{page, wroteAll, row, hexText}
+use Rattle.pieces.specs.Pieces.{page, wroteAll, hexText}
+use Rattle.lines.specs.Lines.{row}
 use Rattle.lines.proofs.Lines.{row-turn, row-end}
 use Rattle.lines.proofs.rows.hexes.Statement.{statement}
 use Rattle.lines.proofs.rows.hexes.Tie as tie

@@ -4,7 +4,8 @@ use Prim.Native.Nat.{_≤_, _-_}
 use lib.ListN.{length, drop}
 use borrow.Author.Needs.{needs}
 use Rattle.text.specs.Text.{decimal}
-use Rattle.lines.specs.Lines.{page, wroteAll, row}
+use Rattle.pieces.specs.Pieces.{page, wroteAll}
+use Rattle.lines.specs.Lines.{row}
 use Rattle.lines.proofs.Lines.{row-turn, row-end}
 use Rattle.lines.proofs.rows.words.Statement.{statement}
 use Rattle.lines.proofs.rows.words.Tie as tie

@@ -1,0 +1,163 @@
+-- Texts after texts in a buffer, and how long the line of an answer is. Assumes nothing.
+use mathlib.Core.Path.{_≡_, refl, sym, ap, ap₂, _∙_}
+use mathlib.Core.List.{List, [], _∷_, _++_}
+use Prim.Native.Nat.{ℕ, _+_, _^_, _≤_, _<_, _/_}
+use native.Mathlib.Omega.{arith}
+use lib.ListN.{length, take, drop, length-append}
+use lib.Seq.{take-at}
+use Rattle.lists.proofs.Tests.{split}
+use Rattle.refusal.specs.declared.Refusal.{Refusal}
+use Rattle.refusal.specs.declared.Refusal.the-variants.{Shape, Dead, Full, NotDetached, Damaged, Short, Beyond, IndexZero, Ends, Form, TooMany, First, Occupation, Trailing, Presence, Line}
+use Rattle.refusal.specs.Refusals.{numberOf}
+use Rattle.keys.specs.Keys.{W, idx, version, keyOf, isNull}
+use Rattle.keys.specs.declared.KeyData.{KeyData}
+use Rattle.keys.proofs.Keys.{version-word}
+use Rattle.writing.specs.declared.Written.{Written}
+use Rattle.writing.specs.declared.Written.the-variants.{End}
+use Rattle.writing.specs.declared.Written.the-variants as written-variants
+use Rattle.writing.specs.Told.{Told, tells, refused}
+use Rattle.writing.specs.Writing.{toldOf, outcome, written}
+use Rattle.text.specs.Text.{decimal, keyText}
+use Rattle.writing.proofs.Writing.{written-refused, then-end, written-then, written-fits}
+use Rattle.text.proofs.Decimal.{length-decimal, length-decimal-64, digits-short}
+use Rattle.text.proofs.Keys.{key-text-null, key-text-length}
+use Rattle.table.specs.Calls.{Said, said-key, said-value, said-done, said-count}
+use Rattle.table.specs.Calls as calls
+use Rattle.script_look.specs.declared.Answer.{Answer}
+use Rattle.script_look.specs.declared.Answer.the-variants.{Key, Value, Done, Count, Refused}
+use Rattle.script_look.specs.Answers.{answerSaid}
+use Rattle.script_say.specs.Says.{okText, refusedText, newline, answerText, lineOut, room, writtenAfter, lined}
+
+-- ---- how long a line is
+
+decimal-32 : (n : ℕ) → n < W → length (decimal n) ≤ 10
+decimal-32 n h = omega (arith, length-decimal n, digits-short 9 (n / 10) (omega arith))
+
+line-length : (a : Said) → length (lineOut a) ≡ length (answerText a) + 1
+unfolding lineOut
+line-length a = length-append (answerText a) (newline ∷ [])
+
+pub value-short : (x : ℕ) → x < 2 ^ 64 → length (lineOut (said-value x)) ≤ room
+unfolding answerText
+value-short x h = omega (arith, line-length (said-value x), length-decimal-64 x h)
+
+pub count-short : (m : ℕ) → m < 2 ^ 64 → length (lineOut (said-count m)) ≤ room
+unfolding answerText
+count-short m h = omega (arith, line-length (said-count m), length-decimal-64 m h)
+
+pub done-short : length (lineOut said-done) ≤ room
+unfolding answerText
+done-short = omega (arith, line-length said-done)
+
+pub refused-short : (r : ℕ) → r < W → length (lineOut (calls.refused r)) ≤ room
+unfolding answerText
+refused-short r h = omega (arith, line-length (calls.refused r), length-append refusedText (decimal r), decimal-32 r h)
+
+number-small : (r : Refusal) → numberOf r < W
+number-small Shape = omega arith
+number-small Dead = omega arith
+number-small Full = omega arith
+number-small NotDetached = omega arith
+number-small Damaged = omega arith
+number-small Short = omega arith
+number-small Beyond = omega arith
+number-small IndexZero = omega arith
+number-small Ends = omega arith
+number-small Form = omega arith
+number-small TooMany = omega arith
+number-small First = omega arith
+number-small Occupation = omega arith
+number-small Trailing = omega arith
+number-small Presence = omega arith
+number-small Line = omega arith
+
+pub key-short : (k : ℕ) → length (lineOut (said-key k)) ≤ room
+unfolding answerText
+key-short k =
+    split (isNull (keyOf k)) (λ e. omega (arith, line-length (said-key k), ap length (key-text-null (keyOf k) e)))
+    (λ e. omega (arith, line-length (said-key k), key-text-length (keyOf k) e, decimal-32 (idx k) (omega arith), decimal-32 (version k) (version-word k)))
+
+-- ---- an answer's line
+
+-- b is the buffer before, d the buffer after the answer's text, and x the buffer after the newline
+module _ (at : ℕ) (b d : List ℕ) (w : Told ℕ) {q : Told ℕ} {x : List ℕ} (fits : at + room ≤ length b) (ends : _≡_ {A = Told ℕ × List ℕ} (q, x) (writtenAfter w (newline ∷ []) d)) where
+  -- the answer's text and the newline after it are the answer's line, which is no longer than the room
+  says : (s : Said) → length (lineOut s) ≤ room → _≡_ {A = Told ℕ × List ℕ} (w, d) (written at (answerText s) b)
+      → (_≡_ {A = Told ℕ × List ℕ} (q, x) (lined s at b)) × (length (lineOut s) ≤ room)
+  unfolding lineOut
+  says s l e = (ends ∙ written-then at (answerText s) (newline ∷ []) b enough e ∙ written-fits at (lineOut s) b enough, l)
+    where
+      enough : at + length (lineOut s) ≤ length b
+      enough = omega arith
+
+  -- the same by the kind of answer
+  module _ {a : Answer} where
+    pub says-key : {k : ℕ} {key : KeyData} → a ≡ Key k → key ≡ keyOf k → _≡_ {A = Told ℕ × List ℕ} (w, d) (written at (keyText key) b)
+        → (_≡_ {A = Told ℕ × List ℕ} (q, x) (lined (answerSaid a) at b)) × (length (lineOut (answerSaid a)) ≤ room)
+    unfolding answerText
+    says-key {k} e f g = rw e (says (said-key k) (key-short k) (rw f at g))
+
+    pub says-value : {y : ℕ} → a ≡ Value y → y < 2 ^ 64 → _≡_ {A = Told ℕ × List ℕ} (w, d) (written at (decimal y) b)
+        → (_≡_ {A = Told ℕ × List ℕ} (q, x) (lined (answerSaid a) at b)) × (length (lineOut (answerSaid a)) ≤ room)
+    unfolding answerText
+    says-value {y} e h g = rw e (says (said-value y) (value-short y h) g)
+
+    pub says-count : {m : ℕ} → a ≡ Count m → m < 2 ^ 64 → _≡_ {A = Told ℕ × List ℕ} (w, d) (written at (decimal m) b)
+        → (_≡_ {A = Told ℕ × List ℕ} (q, x) (lined (answerSaid a) at b)) × (length (lineOut (answerSaid a)) ≤ room)
+    unfolding answerText
+    says-count {m} e h g = rw e (says (said-count m) (count-short m h) g)
+
+    pub says-done : a ≡ Done → _≡_ {A = Told ℕ × List ℕ} (w, d) (written at okText b)
+        → (_≡_ {A = Told ℕ × List ℕ} (q, x) (lined (answerSaid a) at b)) × (length (lineOut (answerSaid a)) ≤ room)
+    unfolding answerText
+    says-done e g = rw e (says said-done done-short g)
+
+    pub says-refused : {r : Refusal} → a ≡ Refused r → _≡_ {A = Told ℕ × List ℕ} (w, d) (written at (refusedText ++ decimal (numberOf r)) b)
+        → (_≡_ {A = Told ℕ × List ℕ} (q, x) (lined (answerSaid a) at b)) × (length (lineOut (answerSaid a)) ≤ room)
+    unfolding answerText
+    says-refused {r} e g = rw e (says (calls.refused (numberOf r)) (refused-short (numberOf r) (number-small r)) g)
+
+-- ---- a refusal's text
+
+module _ (at : ℕ) (b d : List ℕ) {w : Written} (fits : at + room ≤ length b) (first : outcome w d ≡ written at refusedText b) where
+  pub refusal-text : (r : Refusal) {n m : ℕ} → w ≡ End n → m ≡ numberOf r → written n (decimal m) d ≡ written at (refusedText ++ decimal (numberOf r)) b
+  refusal-text r {n} {m} e f =
+      rw f (then-end (decimal (numberOf r)) d e ∙ written-then at refusedText (decimal (numberOf r)) b enough first)
+    where
+      enough : at + length (refusedText ++ decimal (numberOf r)) ≤ length b
+      enough = omega (arith, length-append refusedText (decimal (numberOf r)), decimal-32 (numberOf r) (number-small r))
+
+  pub refusal-fits : {r : Refusal} → w ≡ written-variants.Refused r → ⊥
+  refusal-fits {r} e =
+      omega (arith, written-refused at refusedText b d (numberOf r) (ap (λ (x : Written). outcome x d) (sym e) ∙ first) .0)
+
+-- ---- a line in a buffer that has the room
+
+pub said-lined : (s : Said) (at : ℕ) (b d : List ℕ) (w : Told ℕ) → at + room ≤ length b → _≡_ {A = Told ℕ × List ℕ} (w, d) (written at (lineOut s) b) → length (lineOut s) ≤ room
+    → _≡_ {A = Told ℕ × List ℕ} (w, d) (lined s at b)
+said-lined s at b d w h e l = e ∙ written-is at (lineOut s) b (omega arith)
+
+-- ---- a line made at the front of a buffer
+
+module _ (s : Said) (b d : List ℕ) {w : Written} (e : outcome w d ≡ lined s 0 b) where
+  pub front-end : {n : ℕ} → w ≡ End n → n ≡ length (lineOut s)
+  front-end {n} f =
+      let q : tells n ≡ tells (0 + length (lineOut s)) = sym (ap toldOf f) ∙ ap (λ (p : Told ℕ × List ℕ). p .0) e in
+      let m : n ≡ 0 + length (lineOut s) = cc in
+      omega arith
+
+  -- so what is written of it is the line
+  pub front-written : {n : ℕ} → w ≡ End n → (at : ℕ) (out : List ℕ) → written at (take n d) out ≡ written at (lineOut s) out
+  front-written f at out =
+      ap (λ (t : List ℕ). written at t out)
+      (ap₂ (λ (m : ℕ) (x : List ℕ). take m x) (front-end f) (ap (λ (p : Told ℕ × List ℕ). p .1) e)
+      ∙ take-at (lineOut s) (drop (0 + length (lineOut s)) b) (length (lineOut s)) refl)
+
+  pub front-in : {n : ℕ} → w ≡ End n → n ≤ length d
+  front-in f = omega (arith, front-end f, ap (λ (p : Told ℕ × List ℕ). length (p .1)) e, length-append (lineOut s) (drop (0 + length (lineOut s)) b))
+
+  pub front-fits : {r : Refusal} → w ≡ written-variants.Refused r → ⊥
+  front-fits {r} f =
+      let q : refused (numberOf r) ≡ tells (0 + length (lineOut s)) = sym (ap toldOf f) ∙ ap (λ (p : Told ℕ × List ℕ). p .0) e in
+      let z : _≡_ {A = ℕ} 0 1 = cc in
+      omega arith

@@ -1,0 +1,85 @@
+// The answer to a script's line, written as one line of text.
+ghost use mathlib.Core.Path.{_≡_};
+ghost use mathlib.Core.List.{[], _∷_, _++_};
+ghost use Prim.Native.Nat.{_+_, _≤_};
+ghost use lib.ListN.{length};
+ghost use Rattle.refusal.specs.Refusals.{numberOf};
+ghost use Rattle.writing.specs.Writing.{toldOf, outcome, written};
+ghost use Rattle.text.specs.Text.{decimal};
+ghost use Rattle.script_look.specs.Answers.{answerSaid};
+ghost use Rattle.script_say.specs.Says.{refusedText, newline, lineOut, room, thenTold, lined};
+use keys::KeyData;
+use refusal::Refusal;
+use script_look::Answer;
+use text::write_decimal;
+use text::write_key;
+use writing::Written;
+use writing::write_bytes;
+
+// How many bytes the longest line of output has: an index and a version of ten digits each, the letter and the newline.
+pub const ROOM: usize = 22;
+
+// The newline after a text, unless the text was refused.
+fn end_line(w: Written, out: &mut [u8]) -> Written
+    ensures { λ r. ⌜ outcome r (now (out .exit)) ≡ thenTold (toldOf w) (newline ∷ []) (now (out .entry)) ⌝ }
+{
+    match w {
+        Written::End(n) => write_bytes(b"\n", n, out),
+        Written::Refused(r) => Written::Refused(r),
+    }
+}
+
+// A refusal's text.
+fn write_refusal(refusal: Refusal, at: usize, out: &mut [u8]) -> Written
+    requires { ⌜ at + room ≤ length (now out) ⌝ }
+    ensures { λ r. ⌜ outcome r (now (out .exit)) ≡ written at (refusedText ++ decimal (numberOf refusal)) (now (out .entry)) ⌝ }
+{
+    match write_bytes(b"refused ", at, out) {
+        Written::End(n) => {
+            let number = refusal.number();
+            write_decimal(number as u64, n, out)
+        }
+        Written::Refused(r) => Written::Refused(r),
+    }
+}
+
+// Writes an answer as one line, from a place of a buffer that has the room on.
+fn write_line(answer: Answer, at: usize, out: &mut [u8]) -> Written
+    requires { ⌜ at + room ≤ length (now out) ⌝ }
+    ensures { λ r. ⌜ (outcome r (now (out .exit)) ≡ lined (answerSaid answer) at (now (out .entry))) × (length (lineOut (answerSaid answer)) ≤ room) ⌝ }
+{
+    match answer {
+        Answer::Key(k) => {
+            let w = write_key(KeyData::from_ffi(k), at, out);
+            end_line(w, out)
+        }
+        Answer::Value(x) => {
+            let w = write_decimal(x, at, out);
+            end_line(w, out)
+        }
+        Answer::Done => {
+            let w = write_bytes(b"ok", at, out);
+            end_line(w, out)
+        }
+        Answer::Count(n) => {
+            let w = write_decimal(n as u64, at, out);
+            end_line(w, out)
+        }
+        Answer::Refused(r) => {
+            let w = write_refusal(r, at, out);
+            end_line(w, out)
+        }
+    }
+}
+
+// Writes an answer as one line, from a place of a buffer on. The line is made beside the buffer, since one that does not fit leaves the buffer
+// as it was.
+pub fn say(answer: Answer, at: usize, out: &mut [u8]) -> Written
+    ensures { λ r. ⌜ (outcome r (now (out .exit)) ≡ written at (lineOut (answerSaid answer)) (now (out .entry))) × (length (lineOut (answerSaid answer)) ≤ room) ⌝ }
+{
+    let mut line = [0u8; ROOM];
+    match write_line(answer, 0, &mut line) {
+        Written::End(n) => write_bytes(&line[..n], at, out),
+        Written::Refused(r) => Written::Refused(r),
+    }
+}
