@@ -47,3 +47,15 @@ wroteAll-append p (t ∷ ts) us = wroteAll-append (wrote p t) ts us
 -- pieces after pieces
 pub wroteAll-then : (p q r : ℕ × List ℕ) (ts us : List (List ℕ)) → q ≡ wroteAll p ts → r ≡ wroteAll q us → r ≡ wroteAll p (ts ++ us)
 wroteAll-then p q r ts us e f = f ∙ ap (λ (z : ℕ × List ℕ). wroteAll z us) e ∙ wroteAll-append p ts us
+
+-- a piece, or two, after what stands there already
+module _ (p q r : ℕ × List ℕ) (a : List ℕ) (e : q ≡ p) where
+  pub then-one : r ≡ wrote q a → r ≡ wrote p a
+  then-one f = f ∙ ap (λ (z : ℕ × List ℕ). wrote z a) e
+
+  pub then-two : (b : List ℕ) → r ≡ wrote (wrote q a) b → r ≡ wrote (wrote p a) b
+  then-two b f = f ∙ ap (λ (z : ℕ × List ℕ). wrote (wrote z a) b) e
+
+-- a piece of two bytes, each by its own law
+pub wrote-two : (p r : ℕ × List ℕ) {x y m n : ℕ} → x ≡ m → y ≡ n → r ≡ wrote p (x ∷ y ∷ []) → r ≡ wrote p (m ∷ n ∷ [])
+wrote-two p r e f g = g ∙ ap₂ (λ (i j : ℕ). wrote p (i ∷ j ∷ [])) e f
