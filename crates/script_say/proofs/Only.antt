@@ -9,4 +9,4 @@ use Rattle.writing.proofs.Outcomes.{written-only}
 
 -- where the line ends, and the buffer
 pub say-only : {x : Told ℕ × List ℕ} {r q : Written} {b d : List ℕ} → outcome r b ≡ x → outcome q d ≡ x → (r ≡ q) × (b ≡ d)
-say-only {x} {r} {q} {b} {d} e f = written-only r q b d x e f
+say-only {x} {r} {q} {b} {d} e f = written-only e f

@@ -16,7 +16,7 @@ use Rattle.writing.specs.declared.Written.{Written}
 use Rattle.writing.specs.declared.Written.the-variants.{End}
 use Rattle.writing.specs.declared.Written.the-variants as written-variants
 use Rattle.writing.specs.Told.{Told, tells, refused}
-use Rattle.writing.specs.Writing.{toldOf, outcome, written}
+use Rattle.writing.specs.Writing.{toldOf, outcome, written, writtenAfter}
 use Rattle.text.specs.Text.{decimal, keyText}
 use Rattle.writing.proofs.Writing.{written-refused, then-end, written-then, written-fits}
 use Rattle.text.proofs.Decimal.{length-decimal, length-decimal-64, digits-short}
@@ -26,7 +26,7 @@ use Rattle.table.specs.Calls as calls
 use Rattle.script_look.specs.declared.Answer.{Answer}
 use Rattle.script_look.specs.declared.Answer.the-variants.{Key, Value, Done, Count, Refused}
 use Rattle.script_look.specs.Answers.{answerSaid}
-use Rattle.script_say.specs.Says.{okText, refusedText, newline, answerText, lineOut, room, writtenAfter, lined}
+use Rattle.script_say.specs.Says.{okText, refusedText, newline, answerText, lineOut, room, lined}
 
 -- ---- how long a line is
 
@@ -135,7 +135,7 @@ module _ (at : ℕ) (b d : List ℕ) {w : Written} (fits : at + room ≤ length 
 
 pub said-lined : (s : Said) (at : ℕ) (b d : List ℕ) (w : Told ℕ) → at + room ≤ length b → _≡_ {A = Told ℕ × List ℕ} (w, d) (written at (lineOut s) b) → length (lineOut s) ≤ room
     → _≡_ {A = Told ℕ × List ℕ} (w, d) (lined s at b)
-said-lined s at b d w h e l = e ∙ written-is at (lineOut s) b (omega arith)
+said-lined s at b d w h e l = e ∙ written-fits at (lineOut s) b (omega arith)
 
 -- ---- a line made at the front of a buffer
 

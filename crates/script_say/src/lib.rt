@@ -4,10 +4,10 @@ ghost use mathlib.Core.List.{[], _∷_, _++_};
 ghost use Prim.Native.Nat.{_+_, _≤_};
 ghost use lib.ListN.{length};
 ghost use Rattle.refusal.specs.Refusals.{numberOf};
-ghost use Rattle.writing.specs.Writing.{toldOf, outcome, written};
+ghost use Rattle.writing.specs.Writing.{toldOf, outcome, written, writtenAfter};
 ghost use Rattle.text.specs.Text.{decimal};
 ghost use Rattle.script_look.specs.Answers.{answerSaid};
-ghost use Rattle.script_say.specs.Says.{refusedText, newline, lineOut, room, thenTold, lined};
+ghost use Rattle.script_say.specs.Says.{refusedText, newline, lineOut, room, lined};
 use keys::KeyData;
 use refusal::Refusal;
 use script_look::Answer;
@@ -21,7 +21,7 @@ pub const ROOM: usize = 22;
 
 // The newline after a text, unless the text was refused.
 fn end_line(w: Written, out: &mut [u8]) -> Written
-    ensures { λ r. ⌜ outcome r (now (out .exit)) ≡ thenTold (toldOf w) (newline ∷ []) (now (out .entry)) ⌝ }
+    ensures { λ r. ⌜ outcome r (now (out .exit)) ≡ writtenAfter (toldOf w) (newline ∷ []) (now (out .entry)) ⌝ }
 {
     match w {
         Written::End(n) => write_bytes(b"\n", n, out),

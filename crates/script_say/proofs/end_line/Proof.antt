@@ -3,7 +3,7 @@ use mathlib.Core.Path.{_∙_}
 use mathlib.Core.List.{[], _∷_}
 use borrow.Author.Needs.{needs}
 use Rattle.script_say.specs.Says.{newline}
-use Rattle.script_say.proofs.Says.{then-end, then-refused}
+use Rattle.writing.proofs.Writing.{then-end, then-refused}
 use Rattle.script_say.proofs.end_line.Statement.{statement}
 use Rattle.script_say.proofs.end_line.Tie as tie
 
