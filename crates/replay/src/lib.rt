@@ -1,6 +1,6 @@
 // What the programs that replay the lists share: what a line of calls says, and the digest of whole states.
 ghost use mathlib.Core.Path.{_≡_};
-ghost use Prim.Native.Nat.{_<_, _%_};
+ghost use Prim.Native.Nat.{_<_, _%_, min};
 ghost use Rattle.replay.specs.Digest.{mixed, mixedAll};
 ghost use Rattle.replay.specs.Lines.{blank, longer, taken, keyNumber, ruleOf};
 use rules::Rule;
@@ -130,6 +130,16 @@ fn key_number(index: u64, version: u64) -> u64
     ensures { λ r. ⌜ r ≡ keyNumber index version ⌝ }
 {
     version % 4_294_967_296 * 4_294_967_296 + index % 4_294_967_296
+}
+
+// As much as is wanted, of what there is.
+pub fn least(wanted: usize, there: usize) -> usize
+    ensures { λ r. ⌜ r ≡ min wanted there ⌝ }
+{
+    if wanted <= there {
+        return wanted;
+    }
+    there
 }
 
 // ---- digests

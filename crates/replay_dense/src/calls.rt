@@ -14,7 +14,6 @@ use made::put;
 use made::reattach;
 use made::remove;
 use replay::Line;
-use replay_bend::Lent;
 use replay_lines::NO_LINE;
 use replay_state::state;
 use table::Header;
@@ -30,6 +29,7 @@ fn lists(h: Header, versions: &[u32], links: &[u32], keys: &[u64], values: &[u64
     )
 }
 
+// The calls that look at a key. Any other letter is no call.
 fn look_at(
     h: Header,
     versions: &[u32],
@@ -45,9 +45,13 @@ fn look_at(
     if op == b'c' {
         return tested(dense::contains_key(h, versions, links, keys, values, k));
     }
-    placed(dense::place(h, versions, links, keys, values, k))
+    if op == b'o' {
+        return placed(dense::place(h, versions, links, keys, values, k));
+    }
+    Answer::of(NO_LINE, 0)
 }
 
+// The calls that only look.
 fn look(
     h: Header,
     versions: &[u32],
@@ -55,6 +59,7 @@ fn look(
     keys: &[u64],
     values: &[u64],
     op: u8,
+    k: u64,
 ) -> Answer {
     if op == b'n' {
         return issued(dense_next::next_key(h, versions, links, keys, values));
@@ -68,11 +73,14 @@ fn look(
     if op == b't' {
         return Answer::of(DIGEST, lists(h, versions, links, keys, values));
     }
-    Answer::of(DIGEST, state(h, versions, links, keys, values))
+    if op == b's' {
+        return Answer::of(DIGEST, state(h, versions, links, keys, values));
+    }
+    look_at(h, versions, links, keys, values, op, k)
 }
 
-// The calls that store one element or take one out. A key is the last two numbers of a line, or the two before the value.
-fn edit(
+// Makes the call of a line. A key is its last two numbers, or the two before the value.
+pub(crate) fn call(
     h: Header,
     versions: &mut [u32],
     links: &mut [u32],
@@ -81,6 +89,9 @@ fn edit(
     line: Line,
 ) -> Made {
     let op = line.op;
+    if op == b'C' {
+        return begun(h, dense::fresh(versions, links, keys, values));
+    }
     if op == b'i' {
         return insert(h, versions, links, keys, values, line.c);
     }
@@ -90,108 +101,15 @@ fn edit(
     if op == b'd' {
         return detach(h, versions, links, keys, values, line.key());
     }
+    let k = line.key_of_value();
     if op == b'a' {
-        return reattach(
-            h,
-            versions,
-            links,
-            keys,
-            values,
-            line.key_of_value(),
-            line.c,
-        );
+        return reattach(h, versions, links, keys, values, k, line.c);
     }
-    put(
-        h,
-        versions,
-        links,
-        keys,
-        values,
-        line.key_of_value(),
-        line.c,
-    )
-}
-
-// Whether a letter names a call that only looks, at the whole table or at a key.
-fn looks(op: u8) -> bool {
-    op == b'n' || op == b'l' || op == b'f' || op == b't' || op == b's'
-}
-
-fn looks_at(op: u8) -> bool {
-    op == b'g' || op == b'c' || op == b'o'
-}
-
-// Makes the call of a line.
-fn call(
-    h: Header,
-    versions: &mut [u32],
-    links: &mut [u32],
-    keys: &mut [u64],
-    values: &mut [u64],
-    line: Line,
-) -> Made {
-    let op = line.op;
-    if looks(op) {
-        return Made {
-            header: h,
-            answer: look(h, versions, links, keys, values, op),
-        };
+    if op == b'p' {
+        return put(h, versions, links, keys, values, k, line.c);
     }
-    if looks_at(op) {
-        return Made {
-            header: h,
-            answer: look_at(h, versions, links, keys, values, op, line.key()),
-        };
-    }
-    if op == b'C' {
-        return begun(h, dense::fresh(versions, links, keys, values));
-    }
-    edit(h, versions, links, keys, values, line)
-}
-
-fn silent(h: Header) -> Made {
     Made {
         header: h,
-        answer: Answer::of(NO_LINE, 0),
+        answer: look(h, versions, links, keys, values, op, line.key()),
     }
-}
-
-// Lends a line the parts that the table has; a line that bends reaches the whole arrays.
-pub(crate) fn call_on(
-    h: Header,
-    versions: &mut [u32],
-    links: &mut [u32],
-    keys: &mut [u64],
-    values: &mut [u64],
-    lent: Lent,
-    line: Line,
-) -> Made {
-    if replay_bend::bends(line.op) {
-        replay_bend::cells(versions, links, keys, values, line);
-        return silent(replay_bend::header(h, line));
-    }
-    let a = lent.versions;
-    let b = lent.links;
-    let k = lent.keys;
-    let v = lent.values;
-    if versions.len() < a {
-        return silent(h);
-    }
-    if links.len() < b {
-        return silent(h);
-    }
-    if keys.len() < k {
-        return silent(h);
-    }
-    if values.len() < v {
-        return silent(h);
-    }
-    call(
-        h,
-        &mut versions[..a],
-        &mut links[..b],
-        &mut keys[..k],
-        &mut values[..v],
-        line,
-    )
 }
