@@ -77,45 +77,43 @@ key-short k =
     split (isNull (keyOf k)) (λ e. omega (arith, line-length (said-key k), ap length (key-text-null (keyOf k) e)))
     (λ e. omega (arith, line-length (said-key k), key-text-length (keyOf k) e, decimal-32 (idx k) (omega arith), decimal-32 (version k) (version-word k)))
 
--- ---- an answer's line
+-- ---- an answer's text, by its kind, and how long its line is
 
--- b is the buffer before, d the buffer after the answer's text, and x the buffer after the newline
-module _ (at : ℕ) (b d : List ℕ) (w : Told ℕ) {q : Told ℕ} {x : List ℕ} (fits : at + room ≤ length b) (ends : _≡_ {A = Told ℕ × List ℕ} (q, x) (writtenAfter w (newline ∷ []) d)) where
-  -- the answer's text and the newline after it are the answer's line, which is no longer than the room
-  says : (s : Said) → length (lineOut s) ≤ room → _≡_ {A = Told ℕ × List ℕ} (w, d) (written at (answerText s) b)
-      → (_≡_ {A = Told ℕ × List ℕ} (q, x) (lined s at b)) × (length (lineOut s) ≤ room)
-  unfolding lineOut
-  says s l e = (ends ∙ written-then at (answerText s) (newline ∷ []) b enough e ∙ written-fits at (lineOut s) b enough, l)
-    where
-      enough : at + length (lineOut s) ≤ length b
-      enough = omega arith
+module _ (at : ℕ) (b : List ℕ) {a : Answer} {o : Told ℕ × List ℕ} where
+  pub text-key : {k : ℕ} {key : KeyData} → a ≡ Key k → key ≡ keyOf k → o ≡ written at (keyText key) b
+      → (o ≡ written at (answerText (answerSaid a)) b) × (length (lineOut (answerSaid a)) ≤ room)
+  unfolding answerText
+  text-key {k} e f g = rw e (rw f at g, key-short k)
 
-  -- the same by the kind of answer
-  module _ {a : Answer} where
-    pub says-key : {k : ℕ} {key : KeyData} → a ≡ Key k → key ≡ keyOf k → _≡_ {A = Told ℕ × List ℕ} (w, d) (written at (keyText key) b)
-        → (_≡_ {A = Told ℕ × List ℕ} (q, x) (lined (answerSaid a) at b)) × (length (lineOut (answerSaid a)) ≤ room)
-    unfolding answerText
-    says-key {k} e f g = rw e (says (said-key k) (key-short k) (rw f at g))
+  pub text-value : {y : ℕ} → a ≡ Value y → y < 2 ^ 64 → o ≡ written at (decimal y) b
+      → (o ≡ written at (answerText (answerSaid a)) b) × (length (lineOut (answerSaid a)) ≤ room)
+  unfolding answerText
+  text-value {y} e h g = rw e (g, value-short y h)
 
-    pub says-value : {y : ℕ} → a ≡ Value y → y < 2 ^ 64 → _≡_ {A = Told ℕ × List ℕ} (w, d) (written at (decimal y) b)
-        → (_≡_ {A = Told ℕ × List ℕ} (q, x) (lined (answerSaid a) at b)) × (length (lineOut (answerSaid a)) ≤ room)
-    unfolding answerText
-    says-value {y} e h g = rw e (says (said-value y) (value-short y h) g)
+  pub text-count : {m : ℕ} → a ≡ Count m → m < 2 ^ 64 → o ≡ written at (decimal m) b
+      → (o ≡ written at (answerText (answerSaid a)) b) × (length (lineOut (answerSaid a)) ≤ room)
+  unfolding answerText
+  text-count {m} e h g = rw e (g, count-short m h)
 
-    pub says-count : {m : ℕ} → a ≡ Count m → m < 2 ^ 64 → _≡_ {A = Told ℕ × List ℕ} (w, d) (written at (decimal m) b)
-        → (_≡_ {A = Told ℕ × List ℕ} (q, x) (lined (answerSaid a) at b)) × (length (lineOut (answerSaid a)) ≤ room)
-    unfolding answerText
-    says-count {m} e h g = rw e (says (said-count m) (count-short m h) g)
+  pub text-done : a ≡ Done → o ≡ written at okText b
+      → (o ≡ written at (answerText (answerSaid a)) b) × (length (lineOut (answerSaid a)) ≤ room)
+  unfolding answerText
+  text-done e g = rw e (g, done-short)
 
-    pub says-done : a ≡ Done → _≡_ {A = Told ℕ × List ℕ} (w, d) (written at okText b)
-        → (_≡_ {A = Told ℕ × List ℕ} (q, x) (lined (answerSaid a) at b)) × (length (lineOut (answerSaid a)) ≤ room)
-    unfolding answerText
-    says-done e g = rw e (says said-done done-short g)
+  pub text-refused : {r : Refusal} → a ≡ Refused r → o ≡ written at (refusedText ++ decimal (numberOf r)) b
+      → (o ≡ written at (answerText (answerSaid a)) b) × (length (lineOut (answerSaid a)) ≤ room)
+  unfolding answerText
+  text-refused {r} e g = rw e (g, refused-short (numberOf r) (number-small r))
 
-    pub says-refused : {r : Refusal} → a ≡ Refused r → _≡_ {A = Told ℕ × List ℕ} (w, d) (written at (refusedText ++ decimal (numberOf r)) b)
-        → (_≡_ {A = Told ℕ × List ℕ} (q, x) (lined (answerSaid a) at b)) × (length (lineOut (answerSaid a)) ≤ room)
-    unfolding answerText
-    says-refused {r} e g = rw e (says (calls.refused (numberOf r)) (refused-short (numberOf r) (number-small r)) g)
+-- the answer's text and the newline after it are the answer's line: b is the buffer before, d the buffer after the text, x the buffer after the newline
+pub says : (at : ℕ) (b d : List ℕ) (w : Told ℕ) {q : Told ℕ} {x : List ℕ} → at + room ≤ length b → _≡_ {A = Told ℕ × List ℕ} (q, x) (writtenAfter w (newline ∷ []) d)
+    → (s : Said) → _≡_ {A = Told ℕ × List ℕ} (w, d) (written at (answerText s) b) → length (lineOut s) ≤ room
+    → (_≡_ {A = Told ℕ × List ℕ} (q, x) (lined s at b)) × (length (lineOut s) ≤ room)
+unfolding lineOut
+says at b d w fits ends s e l = (ends ∙ written-then at (answerText s) (newline ∷ []) b enough e ∙ written-fits at (lineOut s) b enough, l)
+  where
+    enough : at + length (lineOut s) ≤ length b
+    enough = omega arith
 
 -- ---- a refusal's text
 

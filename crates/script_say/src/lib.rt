@@ -7,7 +7,7 @@ ghost use Rattle.refusal.specs.Refusals.{numberOf};
 ghost use Rattle.writing.specs.Writing.{toldOf, outcome, written, writtenAfter};
 ghost use Rattle.text.specs.Text.{decimal};
 ghost use Rattle.script_look.specs.Answers.{answerSaid};
-ghost use Rattle.script_say.specs.Says.{refusedText, newline, lineOut, room, lined};
+ghost use Rattle.script_say.specs.Says.{refusedText, newline, answerText, lineOut, room, lined};
 use keys::KeyData;
 use refusal::Refusal;
 use script_look::Answer;
@@ -43,33 +43,27 @@ fn write_refusal(refusal: Refusal, at: usize, out: &mut [u8]) -> Written
     }
 }
 
-// Writes an answer as one line, from a place of a buffer that has the room on.
+// Writes an answer's text, from a place of a buffer that has the room for its line on.
+fn write_text(answer: Answer, at: usize, out: &mut [u8]) -> Written
+    requires { ⌜ at + room ≤ length (now out) ⌝ }
+    ensures { λ r. ⌜ (outcome r (now (out .exit)) ≡ written at (answerText (answerSaid answer)) (now (out .entry))) × (length (lineOut (answerSaid answer)) ≤ room) ⌝ }
+{
+    match answer {
+        Answer::Key(k) => write_key(KeyData::from_ffi(k), at, out),
+        Answer::Value(x) => write_decimal(x, at, out),
+        Answer::Done => write_bytes(b"ok", at, out),
+        Answer::Count(n) => write_decimal(n as u64, at, out),
+        Answer::Refused(r) => write_refusal(r, at, out),
+    }
+}
+
+// The same as one line.
 fn write_line(answer: Answer, at: usize, out: &mut [u8]) -> Written
     requires { ⌜ at + room ≤ length (now out) ⌝ }
     ensures { λ r. ⌜ (outcome r (now (out .exit)) ≡ lined (answerSaid answer) at (now (out .entry))) × (length (lineOut (answerSaid answer)) ≤ room) ⌝ }
 {
-    match answer {
-        Answer::Key(k) => {
-            let w = write_key(KeyData::from_ffi(k), at, out);
-            end_line(w, out)
-        }
-        Answer::Value(x) => {
-            let w = write_decimal(x, at, out);
-            end_line(w, out)
-        }
-        Answer::Done => {
-            let w = write_bytes(b"ok", at, out);
-            end_line(w, out)
-        }
-        Answer::Count(n) => {
-            let w = write_decimal(n as u64, at, out);
-            end_line(w, out)
-        }
-        Answer::Refused(r) => {
-            let w = write_refusal(r, at, out);
-            end_line(w, out)
-        }
-    }
+    let w = write_text(answer, at, out);
+    end_line(w, out)
 }
 
 // Writes an answer as one line, from a place of a buffer on. The line is made beside the buffer, since one that does not fit leaves the buffer
