@@ -20,7 +20,7 @@ const IMAGE: usize = 65_600;
 fn tell(answer: Answer, out: &[u8; IMAGE]) {
     let mut text = [0u8; 1000];
     if answer.kind == WRITTEN {
-        let n = replay_lines::write_image(lines::first(out, answer.a as usize), &mut text);
+        let n = replay_hex::write_image(lines::first(out, answer.a as usize), &mut text);
         io::write_all(STDOUT_FILENO, lines::first(&text, n));
         return;
     }

@@ -5,8 +5,9 @@ use mathlib.Core.List.{List, [], _∷_, _++_}
 use lib.ListN.{take}
 use lib.Dec.{eqb}
 use Rattle.text.specs.Text.{decimal}
-use Rattle.pieces.specs.Pieces.{space, newline, hexText}
+use Rattle.pieces.specs.Pieces.{space, newline}
 use Rattle.lines.specs.Lines.{row}
+use Rattle.replay_hex.specs.Hex.{hex64}
 use Rattle.answers.specs.declared.Answer.{Answer}
 use Rattle.answers.specs.Kinds.{REFUSED, NUMBER, KEY, PAIR, STEP, PLACES, DIGEST, COUNTS, KEPT, IGNORED, REPLACED, TRUTH}
 
@@ -23,16 +24,6 @@ dot = 46 ∷ []
 
 abbrev pub letterV : List ℕ
 letterV = 118 ∷ []
-
--- a number of 64 bits as sixteen hexadecimal digits
-abbrev pub hex16 : ℕ → List (List ℕ)
-hex16 x = hexText (x / 256) ∷ hexText (x % 256) ∷ []
-
-abbrev pub hex32 : ℕ → List (List ℕ)
-hex32 x = hex16 (x / 65536) ++ hex16 (x % 65536)
-
-abbrev pub hex64 : ℕ → List (List ℕ)
-hex64 x = hex32 (x / 4294967296) ++ hex32 (x % 4294967296)
 
 -- a stored key: index, `v`, version, even ones too
 abbrev pub key : ℕ → List (List ℕ)
@@ -70,8 +61,3 @@ unfoldable pub lineOf : Answer → List ℕ → List (List ℕ)
 lineOf a places =
     cond (eqb (a .kind) NO-LINE) []
     (cond (eqb (a .kind) PLACES) (dot ∷ row decimal (take (a .a) places)) (textOf a ++ (newline ∷ [])))
-
--- the line of an image
-abbrev pub hexLine : List ℕ → List (List ℕ)
-hexLine [] = newline ∷ []
-hexLine (b ∷ bs) = hexText b ∷ hexLine bs

@@ -1,11 +1,10 @@
 // An answer as a line of a replay's output: short, and without words.
 ghost use mathlib.Core.Path.{_≡_};
 ghost use mathlib.Core.List.{[], _∷_};
-ghost use Prim.Native.Nat.{_<_};
 ghost use lib.ListN.{take};
 ghost use Rattle.text.specs.Text.{decimal};
 ghost use Rattle.pieces.specs.Pieces.{page, wroteAll};
-ghost use Rattle.replay_lines.specs.Answers.{isNumber, isKeyed, markOf, key, element, hex16, hex32, hex64, textOf, lineOf, hexLine};
+ghost use Rattle.replay_lines.specs.Answers.{isNumber, isKeyed, markOf, key, element, textOf, lineOf};
 use answers::Answer;
 use answers::COUNTS;
 use answers::DIGEST;
@@ -22,31 +21,6 @@ use answers::TRUTH;
 
 // The kind of what has no line: the answer to a line that only prepares a call.
 pub const NO_LINE: u64 = 255;
-
-// ---- digests
-
-fn write_hex16(x: u64, at: usize, out: &mut [u8]) -> usize
-    requires { ⌜ x < 65536 ⌝ }
-    ensures { λ r. ⌜ page r (now (out .exit)) ≡ wroteAll (page at (now (out .entry))) (hex16 x) ⌝ }
-{
-    let n = pieces::hex((x / 256) as u8, at, out);
-    pieces::hex((x % 256) as u8, n, out)
-}
-
-fn write_hex32(x: u64, at: usize, out: &mut [u8]) -> usize
-    requires { ⌜ x < 4294967296 ⌝ }
-    ensures { λ r. ⌜ page r (now (out .exit)) ≡ wroteAll (page at (now (out .entry))) (hex32 x) ⌝ }
-{
-    let n = write_hex16(x / 65_536, at, out);
-    write_hex16(x % 65_536, n, out)
-}
-
-fn write_hex64(x: u64, at: usize, out: &mut [u8]) -> usize
-    ensures { λ r. ⌜ page r (now (out .exit)) ≡ wroteAll (page at (now (out .entry))) (hex64 x) ⌝ }
-{
-    let n = write_hex32(x / 4_294_967_296, at, out);
-    write_hex32(x % 4_294_967_296, n, out)
-}
 
 // ---- elements
 
@@ -136,7 +110,7 @@ fn write_text(answer: Answer, out: &mut [u8]) -> usize
         return pieces::number(answer.a, 0, out);
     }
     if kind == DIGEST {
-        return write_hex64(answer.a, 0, out);
+        return replay_hex::write_hex64(answer.a, 0, out);
     }
     if kind == COUNTS {
         return write_counts(answer.a, answer.b, 0, out);
@@ -169,17 +143,4 @@ pub fn write_answer(answer: Answer, places: &[u32], out: &mut [u8]) -> usize
     }
     let n = write_text(answer, out);
     pieces::bytes(b"\n", n, out)
-}
-
-// Writes bytes as a line, two hexadecimal digits each.
-pub fn write_image(image: &[u8], out: &mut [u8]) -> usize
-    ensures { λ r. ⌜ page r (now (out .exit)) ≡ wroteAll (page 0 (now (out .entry))) (hexLine (now (image .entry))) ⌝ }
-{
-    let mut place = 0;
-    let mut i = 0;
-    while i < image.len() {
-        place = pieces::hex(image[i], place, out);
-        i += 1;
-    }
-    pieces::bytes(b"\n", place, out)
 }

@@ -6,7 +6,7 @@ use native.Mathlib.Numerals.{add-one}
 use lib.ListN.{length, drop, getD, drop-of-length-le}
 use lib.Seq.{drop-cons}
 use Rattle.pieces.specs.Pieces.{wrote, wroteAll, newline, hexText}
-use Rattle.replay_lines.specs.Answers.{hexLine}
+use Rattle.replay_hex.specs.Hex.{hexLine}
 
 -- whole is what comes out
 module _ (xs : List ℕ) (i : ℕ) (p whole : ℕ × List ℕ) (e : wroteAll p (hexLine (drop i xs)) ≡ whole) where

@@ -1,7 +1,7 @@
 -- `write_hex16` writes the lower byte behind the upper. Assumes nothing.
 use borrow.Author.Needs.{needs}
-use Rattle.replay_lines.proofs.write_hex16.Statement.{statement}
-use Rattle.replay_lines.proofs.write_hex16.Tie as tie
+use Rattle.replay_hex.proofs.write_hex16.Statement.{statement}
+use Rattle.replay_hex.proofs.write_hex16.Tie as tie
 
 returns : tie.Need-returns
 returns c = cc (c .before .before .hex2 .ensures, c .before .before .before .before .before .before .hex .ensures)

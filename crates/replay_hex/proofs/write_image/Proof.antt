@@ -4,10 +4,10 @@ use Prim.Native.Nat.{_≤_, _-_}
 use lib.ListN.{length, drop}
 use borrow.Author.Needs.{needs}
 use Rattle.pieces.specs.Pieces.{page, wroteAll}
-use Rattle.replay_lines.specs.Answers.{hexLine}
-use Rattle.replay_lines.proofs.Images.{hex-turn, hex-end}
-use Rattle.replay_lines.proofs.write_image.Statement.{statement}
-use Rattle.replay_lines.proofs.write_image.Tie as tie
+use Rattle.replay_hex.specs.Hex.{hexLine}
+use Rattle.replay_hex.proofs.Images.{hex-turn, hex-end}
+use Rattle.replay_hex.proofs.write_image.Statement.{statement}
+use Rattle.replay_hex.proofs.write_image.Tie as tie
 
 abbrev Inv-loop : tie.InvT-loop
 Inv-loop image out₀ place₀ i₀ t5 out place i =

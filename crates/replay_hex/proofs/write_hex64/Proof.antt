@@ -1,7 +1,7 @@
 -- `write_hex64` writes the lower half behind the upper. Assumes nothing.
 use borrow.Author.Needs.{needs}
-use Rattle.replay_lines.proofs.write_hex64.Statement.{statement}
-use Rattle.replay_lines.proofs.write_hex64.Tie as tie
+use Rattle.replay_hex.proofs.write_hex64.Statement.{statement}
+use Rattle.replay_hex.proofs.write_hex64.Tie as tie
 
 returns : tie.Need-returns
 returns c = cc (c .before .before .write-hex322 .ensures, c .before .before .before .before .before .before .write-hex32 .ensures)
