@@ -1,6 +1,7 @@
--- What the lines do that are no calls. A letter is its ASCII number, and the last number of a line is its c. Assumes nothing.
+-- What the lines do that are no calls. `A`, `B`, `O`: lengths; `H`: the header; `V`, `U`, `K`, `X`: a version, a link, a key, a value. A letter is its
+-- ASCII number, and the last number of a line is its c. Assumes nothing.
 use Prim.Native.Nat.{ℕ, _+_, _%_}
-use mathlib.Core.Bool.{Bool, cond, _||_}
+use mathlib.Core.Bool.{cond}
 use mathlib.Core.List.{List}
 use lib.ListN.{length, set}
 use lib.Dec.{eqb, leb}
@@ -8,10 +9,6 @@ use Rattle.replay.specs.Lines.{keyNumber}
 use Rattle.replay.specs.declared.Line.{Line}
 use Rattle.table.specs.declared.Header.{Header}
 use Rattle.replay_bend.specs.declared.Lent.{Lent}
-
--- `A`, `B`, `O`: lengths; `H`: the header; `V`, `U`, `K`, `X`: a version, a link, a key, a value
-unfoldable pub isBend : ℕ → Bool
-isBend op = eqb op 65 || eqb op 66 || eqb op 79 || eqb op 72 || eqb op 86 || eqb op 85 || eqb op 75 || eqb op 88
 
 -- lengths are read below 65,536
 abbrev pub size : ℕ → ℕ

@@ -2,7 +2,7 @@
 // they make. The others name the keys of the next disjoint.
 ghost use mathlib.Core.Path.{_≡_};
 ghost use Prim.Native.Nat.{_%_};
-ghost use Rattle.replay_bend.specs.Bends.{isBend, lentAll, lentBy, cell, headedBy, asking, asked};
+ghost use Rattle.replay_bend.specs.Bends.{lentAll, lentBy, cell, headedBy, asking, asked};
 use replay::Line;
 use replay::narrow;
 use table::Header;
@@ -33,34 +33,6 @@ impl Lent {
 
 // The room for the places of a disjoint, unless a line lends less.
 const OUTPUT: usize = 8;
-
-// Whether a letter bends: such a line has no answer.
-pub fn bends(op: u8) -> bool
-    ensures { λ r. ⌜ r ≡ isBend op ⌝ }
-{
-    if op == b'A' {
-        return true;
-    }
-    if op == b'B' {
-        return true;
-    }
-    if op == b'O' {
-        return true;
-    }
-    if op == b'H' {
-        return true;
-    }
-    if op == b'V' {
-        return true;
-    }
-    if op == b'U' {
-        return true;
-    }
-    if op == b'K' {
-        return true;
-    }
-    op == b'X'
-}
 
 // What is lent from a line on: a table of C or a map of L begins with its own lengths.
 pub fn lend(before: Lent, line: Line) -> Lent

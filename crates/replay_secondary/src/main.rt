@@ -5,20 +5,28 @@ use answers::Answer;
 use libc::STDIN_FILENO;
 use libc::STDOUT_FILENO;
 use map::MapHeader;
+use replay::least;
 use replay_bend::Lent;
 
-// Room for the list.
+// Room for the list, for each array of a map, and for the places and keys of a disjoint.
 const INPUT: usize = 1_500_000;
 
-fn tell(answer: Answer, places: &[u32]) {
+const ROOM: usize = 4100;
+
+const PLACES: usize = 8;
+
+fn tell(answer: Answer, places: &[u32; PLACES]) {
     let mut text = [0u8; 200];
     let n = replay_lines::write_answer(answer, places, &mut text);
     io::write_all(STDOUT_FILENO, lines::first(&text, n));
 }
 
-// The lines of the input, one after the other.
-fn run(versions: &mut [u32], values: &mut [u64], places: &mut [u32], input: &[u8]) {
-    let mut wanted = [0u64; 8];
+// The lines of the input, one after the other: each bends the whole arrays, or is a call on the parts that are lent.
+fn run(input: &[u8]) {
+    let mut versions = [0x5a5a_5a5au32; ROOM];
+    let mut values = [0x5a5a_5a5a_5a5a_5a5au64; ROOM];
+    let mut places = [0x5a5a_5a5au32; PLACES];
+    let mut wanted = [0u64; PLACES];
     let mut count = 0;
     let mut h = MapHeader { s: 0, count: 0 };
     let mut lent = Lent::none();
@@ -26,26 +34,36 @@ fn run(versions: &mut [u32], values: &mut [u64], places: &mut [u32], input: &[u8
     while at < input.len() {
         let line = replay_input::line_at(input, at);
         lent = replay_bend::lend(lent, line);
-        let made = calls::call_on(h, versions, values, places, &wanted, count, lent, line);
+        replay_bend::cell_u32(&mut versions, b'V', line);
+        replay_bend::cell_u64(&mut values, b'X', line);
+        let a = least(lent.versions, ROOM);
+        let v = least(lent.values, ROOM);
+        let o = least(lent.output, PLACES);
+        let w = least(count, PLACES);
+        let made = calls::call(
+            calls::header(h, line),
+            &mut versions[..a],
+            &mut values[..v],
+            &mut places[..o],
+            &wanted[..w],
+            line,
+        );
         let answer = made.answer;
         let g = made.header;
         h = g;
-        tell(answer, places);
+        tell(answer, &places);
         count = replay_bend::ask(&mut wanted, count, line);
         at = lines::line_end(input, at);
     }
 }
 
 // Reads the whole input.
-fn start(versions: &mut [u32], values: &mut [u64], places: &mut [u32], input: &mut [u8; INPUT]) {
+fn start(input: &mut [u8; INPUT]) {
     let end = io::read_full(STDIN_FILENO, input);
-    run(versions, values, places, lines::first(input, end));
+    run(lines::first(input, end));
 }
 
 fn main() {
-    let mut versions = [0x5a5a_5a5au32; 4100];
-    let mut values = [0x5a5a_5a5a_5a5a_5a5au64; 4100];
-    let mut places = [0x5a5a_5a5au32; 8];
     let mut input = [0u8; INPUT];
-    start(&mut versions, &mut values, &mut places, &mut input);
+    start(&mut input);
 }

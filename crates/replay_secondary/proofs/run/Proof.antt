@@ -1,25 +1,125 @@
 -- `run` keeps the lengths of the arrays, and goes on to a later line with each turn. Assumes nothing.
-use mathlib.Core.Path.{_≡_}
+use mathlib.Core.Path.{_≡_, sym, _∙_}
 use Prim.Native.Nat.{_-_}
 use lib.ListN.{length}
 use borrow.Author.Needs.{needs}
 use native.Mathlib.Omega.{arith}
+use Rattle.replay.proofs.Parts.{part-lent, part-back}
 use Rattle.replay_input.proofs.Places.{line-end-past}
 use Rattle.replay_secondary.proofs.run.Statement.{statement}
 use Rattle.replay_secondary.proofs.run.Tie as tie
 
 abbrev Inv-loop : tie.InvT-loop
-Inv-loop versions₀ values₀ places₀ input wanted₀ count₀ h₀ lent₀ at₀ versions values places wanted count h lent at =
-    (length versions ≡ length versions₀) × (length values ≡ length values₀) × (length places ≡ length places₀) × (length wanted ≡ 8)
+Inv-loop input versions₀ values₀ places₀ wanted₀ count₀ h₀ lent₀ at₀ versions values places wanted count h lent at =
+    (length versions ≡ 4100) × (length values ≡ 4100) × (length places ≡ 8) × (length wanted ≡ 8)
 
 abbrev μ-loop : tie.MeasureT-loop
-μ-loop versions₀ values₀ places₀ input wanted₀ count₀ h₀ lent₀ at₀ versions values places wanted count h lent at = length input - at
+μ-loop input versions₀ values₀ places₀ wanted₀ count₀ h₀ lent₀ at₀ versions values places wanted count h lent at = length input - at
+
+slice-aggregate-cell-u32 : tie.Need-slice-aggregate-cell-u32 Inv-loop μ-loop
+slice-aggregate-cell-u32 c = sym (c .before .before .before .before .loop .inv .0)
+
+slice-aggregate-cell-u64 : tie.Need-slice-aggregate-cell-u64 Inv-loop μ-loop
+slice-aggregate-cell-u64 c = sym (c .before .before .before .before .before .before .before .loop .inv .1)
+
+slice-aggregate-call : tie.Need-slice-aggregate-call Inv-loop μ-loop
+slice-aggregate-call c =
+    let at-least = c .before .before .before .before .before in
+    let at-cell-u32 = at-least .before .before .before .before .before in
+    let at-loop = at-cell-u32 .before .before .before .before .before in
+    part-lent 4100 (at-cell-u32 .cell-u32 .last .0) _ _ (at-cell-u32 .cell-u32 .kept .0 ∙ at-loop .loop .inv .0) (at-least .least .ensures)
+
+slice-aggregate-call-2 : tie.Need-slice-aggregate-call-2 Inv-loop μ-loop
+slice-aggregate-call-2 c =
+    let at-least2 = c .before .before .before .before .before in
+    let at-cell-u64 = at-least2 .before .before .before in
+    let at-loop = at-cell-u64 .before .before .before .before .before .before .before .before in
+    part-lent 4100 (at-cell-u64 .cell-u64 .last .0) _ _ (at-cell-u64 .cell-u64 .kept .0 ∙ at-loop .loop .inv .1) (at-least2 .least2 .ensures)
+
+array-borrow-prefix-places : tie.Need-array-borrow-prefix-places Inv-loop μ-loop
+array-borrow-prefix-places c =
+    let at-least3 = c .before .before .before .before in
+    let at-loop = at-least3 .before .before .before .before .before .before .before .before .before .before .before .before in
+    omega (arith, at-loop .loop .inv .2, at-least3 .least3 .ensures)
+
+slice-aggregate-call-3 : tie.Need-slice-aggregate-call-3 Inv-loop μ-loop
+slice-aggregate-call-3 c =
+    let at-least3 = c .before .before .before .before .before in
+    let at-loop = at-least3 .before .before .before .before .before .before .before .before .before .before .before .before in
+    part-lent 8 (at-loop .loop .places) _ _ (at-loop .loop .inv .2) (at-least3 .least3 .ensures)
+
+array-share-prefix-wanted : tie.Need-array-share-prefix-wanted Inv-loop μ-loop
+array-share-prefix-wanted c =
+    let at-least4 = c .before .before .before .before in
+    let at-loop = at-least4 .before .before .before .before .before .before .before .before .before .before .before .before .before in
+    omega (arith, at-loop .loop .inv .3, at-least4 .least4 .ensures)
+
+slice-aggregate-call-4 : tie.Need-slice-aggregate-call-4 Inv-loop μ-loop
+slice-aggregate-call-4 c =
+    let at-least4 = c .before .before .before .before .before in
+    let at-loop = at-least4 .before .before .before .before .before .before .before .before .before .before .before .before .before in
+    part-lent 8 (at-loop .loop .wanted) _ _ (at-loop .loop .inv .3) (at-least4 .least4 .ensures)
+
+slice-aggregate-ask : tie.Need-slice-aggregate-ask Inv-loop μ-loop
+slice-aggregate-ask c =
+    let at-loop = c .before .before .before .before .before .before .before .before .before .before .before .before .before .before .before .before .before .before .before .before .before .before .before .before .before .before .before in
+    sym (at-loop .loop .inv .3)
 
 loop-less : tie.Need-loop-less Inv-loop μ-loop
-loop-less c = omega (arith, c .line-end .ensures, line-end-past (c .before .before .before .before .before .before .before .before .before .before .before .before .before .before .before .before .before .before .before .before .before .before .before .before .before .before .before .before .args .input .now) (c .before .before .before .before .before .before .before .before .before .before .before .before .before .before .before .before .before .before .before .before .before .before .loop .at) (c .before .before .before .before .before .before .before .before .before .before .before .before .before .before .before .before .before .before .before .before .before .loop-test .taken))
+loop-less c =
+    let at-loop-test = c .before .before .before .before .before .before .before .before .before .before .before .before .before .before .before .before .before .before .before .before .before .before .before .before .before .before .before .before .before in
+    let at-loop = at-loop-test .before in
+    let at-args = at-loop .before .before .before in
+    omega (arith, c .line-end .ensures, at-loop-test .loop-test .taken, line-end-past (at-args .args .input .now) (at-loop .loop .at) (at-loop-test .loop-test .taken))
 
 loop-again : tie.Need-loop-again Inv-loop μ-loop
-loop-again c = search (needs, c .before .before .before .before .before .before .before .before .before .before .before .before .before .before .before .before .before .before .before .before .before .before .loop .inv, c .before .before .before .before .before .before .before .before .before .before .before .before .before .before .call-on .kept, c .before .before .ask .kept)
+loop-again c =
+    let at-ask = c .before .before in
+    let at-call = at-ask .before .before .before .before .before .before .before .before .before in
+    let at-least3 = at-call .before .before .before .before .before .before .before in
+    let at-least2 = at-least3 .before in
+    let at-least = at-least2 .before in
+    let at-cell-u64 = at-least .before .before in
+    let at-cell-u32 = at-cell-u64 .before .before .before in
+    let at-loop = at-cell-u32 .before .before .before .before .before in (
+      part-back 4100 (at-cell-u32 .cell-u32 .last .0) _ _ (at-cell-u32 .cell-u32 .kept .0 ∙ at-loop .loop .inv .0) (at-least .least .ensures) (at-call .call .last .1 .0) (at-call .call .kept .1 .0),
+      part-back 4100 (at-cell-u64 .cell-u64 .last .0) _ _ (at-cell-u64 .cell-u64 .kept .0 ∙ at-loop .loop .inv .1) (at-least2 .least2 .ensures) (at-call .call .last .1 .1 .0) (at-call .call .kept .1 .1 .0),
+      part-back 8 (at-loop .loop .places) _ _ (at-loop .loop .inv .2) (at-least3 .least3 .ensures) (at-call .call .last .1 .1 .1 .0) (at-call .call .kept .1 .1 .1 .0),
+      at-ask .ask .kept .0 ∙ at-loop .loop .inv .3,
+    )
 
 pub run-spec : {M : Type 1} → statement M
-run-spec = tie.close (tie.spec Inv-loop μ-loop (λ c κs. search needs) (λ c. search needs) (λ c κs. search needs) (λ c κs. search needs) (λ c. search needs) (λ c κs. search needs) (λ c κs. search needs) (λ c. search needs) (λ c κs. search needs) (λ c κs. search needs) loop-less loop-again (λ c. search needs) (λ c. search needs) (λ c. search needs) (λ c. search needs))
+run-spec =
+    tie.close
+    (tie.spec
+    Inv-loop
+    μ-loop
+    (λ c κs. search needs)
+    (λ c. search needs)
+    (λ c κs. search needs)
+    (λ c κs. search needs)
+    slice-aggregate-cell-u32
+    (λ c κs. search needs)
+    slice-aggregate-cell-u64
+    (λ c κs. search needs)
+    (λ c κs. search needs)
+    (λ c κs. search needs)
+    (λ c κs. search needs)
+    (λ c κs. search needs)
+    (λ c κs. search needs)
+    (λ c. search needs)
+    slice-aggregate-call
+    (λ c. search needs)
+    slice-aggregate-call-2
+    array-borrow-prefix-places
+    slice-aggregate-call-3
+    array-share-prefix-wanted
+    slice-aggregate-call-4
+    (λ c κs. search needs)
+    (λ c κs. search needs)
+    slice-aggregate-ask
+    (λ c κs. search needs)
+    (λ c κs. search needs)
+    loop-less
+    loop-again
+    (λ c. search needs))
