@@ -1,4 +1,4 @@
--- What taking a byte asks for: the line's buffer holds the bytes that are counted, and the output has room for one answer. Assumes nothing.
+-- What taking a byte asks for: the line's buffer holds the bytes that are counted, and the output has room for one answer. For private functions. Assumes nothing.
 use Prim.Native.Nat.{ℕ, _+_, _≤_}
 use mathlib.Core.List.{List}
 use lib.ListN.{length}

@@ -6,7 +6,7 @@ use Prim.Native.Nat.{ℕ, _+_, _≤_, _<_}
 use native.Mathlib.Omega.{arith}
 use lib.Dec.{leb}
 use lib.ListN.{length, length-append}
-use borrow.Author.Tests.{leb-true, leb-false, le-leb, lt-leb}
+use borrow.Author.Tests.{leb-false, le-leb, lt-leb}
 use Rattle.lists.specs.Put.{put}
 use Rattle.lists.proofs.Put.{put-put, length-put}
 use Rattle.refusal.specs.declared.Refusal.{Refusal}
@@ -15,7 +15,7 @@ use Rattle.writing.specs.Told.{Told, tells, refused}
 use Rattle.writing.specs.declared.Written.{Written}
 use Rattle.writing.specs.declared.Written.the-variants.{End, Refused}
 use Rattle.writing.specs.Writing.{toldOf, written, writtenAfter}
-use Rattle.writing.proofs.Told.{never, told, refused-same, both}
+use Rattle.writing.proofs.Told.{never, refused-same, both}
 
 -- ---- from whether they fit to what is answered
 
@@ -40,17 +40,8 @@ module _ (at count : ℕ) (t b : List ℕ) (long : count ≡ length t) where
 
 -- ---- from what is answered to whether they fit
 
--- what an end says, and what a refusal says: of the bytes, the buffer before and the buffer after
+-- what a refusal says, of the bytes, the buffer before and the buffer after
 module _ (at : ℕ) (t b d : List ℕ) (n : ℕ) where
-  end-cases : (fit : Bool) → leb (at + length t) (length b) ≡ fit → _≡_ {A = Told ℕ × List ℕ} (tells n, d) (cond fit (tells (at + length t), put b at t) (refused 6, b))
-      → (at + length t ≤ length b) × ((n ≡ at + length t) × (d ≡ put b at t))
-  end-cases true h e = let p = both e in (leb-true _ _ h, (told (p .0), p .1))
-  end-cases false h e = never (sym (both e .0))
-
-  pub written-end : _≡_ {A = Told ℕ × List ℕ} (tells n, d) (written at t b) → (at + length t ≤ length b) × ((n ≡ at + length t) × (d ≡ put b at t))
-  unfolding written
-  written-end e = end-cases (leb (at + length t) (length b)) refl e
-
   refused-cases : (fit : Bool) → leb (at + length t) (length b) ≡ fit → _≡_ {A = Told ℕ × List ℕ} (refused n, d) (cond fit (tells (at + length t), put b at t) (refused 6, b))
       → (length b < at + length t) × ((n ≡ 6) × (d ≡ b))
   refused-cases true h e = never (both e .0)
