@@ -1,7 +1,7 @@
 use borrow.Author.Needs.{needs}
 use Prim.Native.Nat.{_≤_, _-_}
-use Rattle.image_cases.proofs.cut.Statement.{statement}
-use Rattle.image_cases.proofs.cut.Tie as tie
+use Rattle.image_damaged.proofs.cut.Statement.{statement}
+use Rattle.image_damaged.proofs.cut.Tie as tie
 
 abbrev Inv-loop : tie.InvT-loop
 Inv-loop image end₀ t4 end = end ≤ 27

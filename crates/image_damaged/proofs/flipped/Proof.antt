@@ -2,8 +2,8 @@ use borrow.Author.Needs.{needs}
 use Prim.Native.Nat.{_≤_, _-_}
 use lib.ListN.{length}
 use mathlib.Core.Path.{_≡_}
-use Rattle.image_cases.proofs.flipped.Statement.{statement}
-use Rattle.image_cases.proofs.flipped.Tie as tie
+use Rattle.image_damaged.proofs.flipped.Statement.{statement}
+use Rattle.image_damaged.proofs.flipped.Tie as tie
 
 abbrev Inv-loop : tie.InvT-loop
 Inv-loop image₀ i₀ end image i = (i ≤ end) × (length image ≡ length image₀)

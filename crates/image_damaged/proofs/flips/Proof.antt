@@ -1,8 +1,8 @@
 use borrow.Author.Needs.{needs}
 use lib.ListN.{length}
 use mathlib.Core.Path.{_≡_}
-use Rattle.image_cases.proofs.flips.Statement.{statement}
-use Rattle.image_cases.proofs.flips.Tie as tie
+use Rattle.image_damaged.proofs.flips.Statement.{statement}
+use Rattle.image_damaged.proofs.flips.Tie as tie
 
 abbrev Inv-loop : tie.InvT-loop
 Inv-loop image₀ i bit₀ turns₀ t5 image bit turns = length image ≡ length image₀

@@ -1,8 +1,8 @@
 use borrow.Author.Needs.{needs}
 use Prim.Native.Nat.{_≤_, _-_}
 use lib.ListN.{length}
-use Rattle.image_cases.proofs.held.Statement.{statement}
-use Rattle.image_cases.proofs.held.Tie as tie
+use Rattle.image_damaged.proofs.held.Statement.{statement}
+use Rattle.image_damaged.proofs.held.Tie as tie
 
 abbrev Inv-loop : tie.InvT-loop
 Inv-loop list i₀ i = i ≤ length list
