@@ -124,10 +124,14 @@ fn lengthened(image: &mut [u8], last: usize) {
     say(b"\n");
 }
 
-fn ended(image: &mut [u8], last: usize, byte: u8) {
-    if last < image.len() {
-        image[last] = byte;
+fn store(image: &mut [u8], at: usize, byte: u8) {
+    if at < image.len() {
+        image[at] = byte;
     }
+}
+
+fn ended(image: &mut [u8], last: usize, byte: u8) {
+    store(image, last, byte);
     judged(image);
 }
 
