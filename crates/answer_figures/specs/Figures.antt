@@ -4,15 +4,12 @@ use mathlib.Core.Bool.{cond}
 use mathlib.Core.List.{List, [], _∷_}
 use lib.Dec.{eqb}
 use Rattle.keys.specs.Keys.{keyOf}
-use Rattle.text.specs.Text.{decimal, keyText}
+use Rattle.text.specs.Text.{decimal, keyText, refusedText}
 use Rattle.pieces.specs.Pieces.{space}
 use Rattle.answers.specs.declared.Answer.{Answer}
 use Rattle.answers.specs.Kinds.{REFUSED, KEY, PAIR, STEP, COUNTS, REPLACED, HEADER, MAP-HEADER}
 
--- `refused ` and `replaced `, with their spaces
-abbrev pub refusedText : List ℕ
-refusedText = 114 ∷ 101 ∷ 102 ∷ 117 ∷ 115 ∷ 101 ∷ 100 ∷ 32 ∷ []
-
+-- `replaced `, with its space
 abbrev pub replacedText : List ℕ
 replacedText = 114 ∷ 101 ∷ 112 ∷ 108 ∷ 97 ∷ 99 ∷ 101 ∷ 100 ∷ 32 ∷ []
 

@@ -1,30 +1,27 @@
 -- An answer's line has at most 69 bytes, so where a buffer has that room it stands there whole. Assumes nothing.
 use mathlib.Core.Path.{_≡_, refl}
 use mathlib.Core.List.{List, [], _∷_, _++_}
-use Prim.Native.Nat.{ℕ, _+_, _/_, _^_, _≤_, _<_}
+use Prim.Native.Nat.{ℕ, _+_, _^_, _≤_, _<_}
 use native.Mathlib.Omega.{arith}
 use lib.ListN.{length, length-append}
 use lib.Dec.{eqb}
 use Rattle.lists.specs.Put.{put}
 use Rattle.lists.proofs.Tests.{either}
-use Rattle.keys.specs.Keys.{W, idx, version, keyOf, isNull}
+use Rattle.keys.specs.Keys.{idx, version, keyOf, isNull}
 use Rattle.keys.proofs.Keys.{version-word}
 use Rattle.text.specs.Text.{decimal, nullText, keyText}
-use Rattle.text.proofs.Decimal.{length-decimal, digits-short, length-decimal-64}
+use Rattle.text.proofs.Decimal.{length-decimal-32, length-decimal-64}
 use Rattle.pieces.specs.Pieces.{page, wroteAll, joined, newline}
 use Rattle.pieces.proofs.Pieces.{wroteAll-fits}
 use Rattle.answers.specs.declared.Answer.{Answer}
 use Rattle.answer_figures.specs.Figures.{figures}
 use Rattle.answer_lines.specs.Answers.{truthText, textOf, lineOf}
 
-word-short : (n : ℕ) → n < W → length (decimal n) ≤ 10
-word-short n h = omega (arith, length-decimal n, digits-short 9 (n / 10) (omega arith))
-
 key-short : (k : ℕ) → length (keyText (keyOf k)) ≤ 21
 unfolding keyText
 key-short k =
     either (λ (t : List ℕ). length t ≤ 21) (isNull (keyOf k)) nullText (decimal (idx k) ++ (118 ∷ decimal (version k))) (omega arith)
-    (omega (arith, length-append (decimal (idx k)) (118 ∷ decimal (version k)), word-short (idx k) (omega arith), word-short (version k) (version-word k)))
+    (omega (arith, length-append (decimal (idx k)) (118 ∷ decimal (version k)), length-decimal-32 (idx k) (omega arith), length-decimal-32 (version k) (version-word k)))
 
 -- how many bytes pieces have
 abbrev total : List (List ℕ) → ℕ

@@ -3,16 +3,13 @@ use Prim.Native.Nat.{ℕ}
 use mathlib.Core.Bool.{cond}
 use mathlib.Core.List.{List, [], _∷_, _++_}
 use lib.Dec.{eqb}
+use Rattle.text.specs.Text.{okText}
 use Rattle.pieces.specs.Pieces.{newline}
 use Rattle.answers.specs.declared.Answer.{Answer}
 use Rattle.answers.specs.Kinds.{DONE, PLACES, KEPT, IGNORED, STORED, ENDED, TRUTH}
 use Rattle.answer_figures.specs.Figures.{figures}
 
 -- ---- the words, letter by letter
-
--- `ok`
-abbrev pub okText : List ℕ
-okText = 111 ∷ 107 ∷ []
 
 -- `done`
 abbrev pub doneText : List ℕ

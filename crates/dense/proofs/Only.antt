@@ -1,16 +1,12 @@
 -- No second outcome: each reading of an answer is one-to-one, so a contract leaves one answer, one table and one header. Assumes nothing.
-use mathlib.Core.Path.{_≡_, refl, sym, ap, _∙_}
-use mathlib.Core.Bool.{Bool}
-use Prim.Native.Nat.{ℕ}
-use native.Mathlib.Omega.{arith}
+use mathlib.Core.Path.{_≡_, refl, ap}
 use Rattle.lists.proofs.Only.{only-both}
 use Rattle.refusal.specs.declared.Refusal.{Refusal}
 use Rattle.refusal.specs.Refusals.{numberOf}
 use Rattle.refusal.proofs.Numbers.{number-one-to-one}
-use Rattle.table.specs.declared.Header.{Header}
 use Rattle.table.specs.Table.{Table}
-use Rattle.table.specs.Calls.{Said, refused, Out, Judged, fails, Begun, cannot}
-use Rattle.dense.specs.Answers.{outcome, judgedOf, valueSaid, issuedSaid, countSaid, truthSaid, begunOf, slotJudged, doneSaid}
+use Rattle.table.specs.Calls.{Said, refused, Out, fails, cannot}
+use Rattle.dense.specs.Answers.{outcome, judgedOf, valueSaid, issuedSaid, countSaid, truthSaid, begunOf, doneSaid}
 use Rattle.dense.specs.declared.Placed.{Placed}
 use Rattle.dense.specs.declared.Placed.the-variants as placed
 use Rattle.dense.specs.declared.Found.{Found}
@@ -21,8 +17,6 @@ use Rattle.dense.specs.declared.Counted.{Counted}
 use Rattle.dense.specs.declared.Counted.the-variants as counted
 use Rattle.dense.specs.declared.Tested.{Tested}
 use Rattle.dense.specs.declared.Tested.the-variants as tested
-use Rattle.dense.specs.declared.Slot.{Slot}
-use Rattle.dense.specs.declared.Slot.the-variants as slot
 use Rattle.dense.specs.declared.Verdict.{Verdict}
 use Rattle.dense.specs.declared.Verdict.the-variants as verdict
 use Rattle.dense.specs.declared.Started.{Started}
@@ -67,12 +61,6 @@ truth-one-to-one (tested.Truth x) (tested.Truth y) e = ap tested.Truth (cc)
 truth-one-to-one (tested.Truth x) (tested.Refused q) e = cc
 truth-one-to-one (tested.Refused r) (tested.Truth y) e = cc
 truth-one-to-one (tested.Refused r) (tested.Refused q) e = ap tested.Refused (said-refusal r q e)
-
-pub slot-one-to-one : (a b : Slot) → slotJudged a ≡ slotJudged b → a ≡ b
-slot-one-to-one (slot.At p) (slot.At q) e = ap slot.At (cc)
-slot-one-to-one (slot.At p) (slot.Refused q) e = cc
-slot-one-to-one (slot.Refused r) (slot.At q) e = cc
-slot-one-to-one (slot.Refused r) (slot.Refused q) e = ap slot.Refused (fails-refusal r q e)
 
 pub done-one-to-one : (a b : Verdict) → doneSaid a ≡ doneSaid b → a ≡ b
 done-one-to-one verdict.Done verdict.Done e = refl

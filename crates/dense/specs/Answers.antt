@@ -1,8 +1,5 @@
 -- What each answer of the code says on paper: the number of a refusal, or the values. Assumes nothing.
-use Prim.Native.Nat.{ℕ}
-use Rattle.refusal.specs.declared.Refusal.{Refusal}
 use Rattle.refusal.specs.Refusals.{numberOf}
-use Rattle.table.specs.declared.Header.{Header}
 use Rattle.table.specs.Table.{Table}
 use Rattle.table.specs.Calls.{Said, said-key, said-value, said-count, said-truth, said-done, refused, Out, Judged, found, fails, Begun, begins, cannot}
 use Rattle.dense.specs.declared.Placed.{Placed}

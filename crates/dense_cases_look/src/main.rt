@@ -1,4 +1,4 @@
-// Situations of lookup, put, the lists and disjoint on tables that are not sound, each run through the real arrays.
+// Situations of lookup, put, place, the lists and disjoint, most on tables that are not sound, each run through the real arrays.
 // The remarks of standard input say what the rules give, one before each situation; the lines after a remark are what the calls answer.
 use answers::Answer;
 use dense::contains_key;

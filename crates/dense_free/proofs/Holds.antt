@@ -1,4 +1,4 @@
--- The shape apart from the free list. Assumes nothing.
+-- What `free_list_holds` answers: no where the shape fails, else what is told of the free list. Assumes nothing.
 use mathlib.Core.Path.{_≡_}
 use mathlib.Core.Bool.{false, _&&_}
 use Prim.Native.Nat.{ℕ}

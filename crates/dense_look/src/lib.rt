@@ -1,4 +1,4 @@
-// The dense table over lent arrays: the calls that only look. The Rust's `dense.rs`, read side.
+// The dense table over lent arrays: len, is_empty, the lists and lookup. The Rust's `dense.rs`, read side.
 ghost use mathlib.Core.Path.{_≡_};
 ghost use Rattle.table.specs.Calls.{len, isEmpty, listedKeys, listedValues, lookup};
 ghost use Rattle.dense.specs.Lent.{before};

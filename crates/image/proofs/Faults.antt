@@ -1,7 +1,7 @@
 -- What the judge of the code says is what is said of the list of records: the same refusals, and of an accepted image the list itself,
 -- the place where it is read, and its counts. Assumes nothing.
 use mathlib.Core.Path.{_≡_, refl, sym, ap, _∙_}
-use mathlib.Core.Bool.{false, cond}
+use mathlib.Core.Bool.{false}
 use mathlib.Core.List.{List, [], _∷_}
 use Prim.Native.Nat.{ℕ, _≤_}
 use native.Mathlib.Omega.{arith}

@@ -11,7 +11,7 @@ use lib.Dec.{leb, ltb, eqb}
 use lib.ListN.{length}
 use borrow.Author.Tests.{eqb-true, eqb-false, ltb-true, ltb-false, le-leb, lt-leb, ne-eqb}
 use Rattle.lists.specs.Put.{put}
-use Rattle.lists.proofs.Tests.{split}
+use Rattle.lists.proofs.Tests.{split, before, first-append}
 use Rattle.writing.specs.Told.{Told, tells, refused, onward}
 use Rattle.numbers.specs.Numbers.{numberAt}
 use Rattle.writing.specs.Writing.{written}
@@ -21,7 +21,7 @@ use Rattle.records.specs.Records.{versionOf, presenceOf, recordAt, recordsFrom,
 use Rattle.summaries.specs.Summaries.{wrongs}
 use Rattle.table.specs.Table.{Table, lengthsFit, hasShape}
 use Rattle.table.specs.Sound.{isSound}
-use Rattle.table.specs.Refused.{Tests, first}
+use Rattle.lists.specs.Tests.{Tests, first}
 use Rattle.image.specs.Image.{imageBytes, imageLen, writeImage}
 use Rattle.image.specs.Rebuild.{firstWrong, fitting, judgedImage, countsIn, judgedCounts, rebuilt, arrays, begun, rebuiltFrom, rebuild}
 use Rattle.image.specs.Refused.{ruled, reads, answerOr, recordTests, recordEnd, recordsTests, recordsIn, listTests, imageTests, rebuildTests, lenTests, writeTests, ruledOut}
@@ -35,14 +35,6 @@ faultIn (refused k) = some k
 by-told : {A C : Type 0} (x : Told A) → ((a : A) → x ≡ tells a → C) → ((k : ℕ) → x ≡ refused k → C) → C
 by-told (tells a) f g = f a refl
 by-told (refused k) f g = g k refl
-
-abbrev before : Option ℕ → Option ℕ → Option ℕ
-before none g = g
-before (some r) g = some r
-
-first-append : (l m : Tests) → first (l ++ m) ≡ before (first l) (first m)
-first-append [] m = refl
-first-append (e ∷ l) m = split (e .0) (λ b. rw b (first-append l m)) (λ b. rw b)
 
 -- a record, from its presence on, from its second number on, and from its first
 module _ (z : ℕ → Told (ℕ × ℕ)) (v : ℕ) where

@@ -34,7 +34,7 @@ use Rattle.table.proofs.Facts.{facts-live}
 use Rattle.table.proofs.Orderly.{Orderly, orderly}
 use Rattle.table.proofs.Follows.{find-live, find-dead}
 use Rattle.table.proofs.Decides.{sound-passes}
-use Rattle.table.specs.Refused.{first}
+use Rattle.lists.specs.Tests.{first}
 use Rattle.table.proofs.Refused.{first-holds}
 use Rattle.image.specs.Image.{slotOf, imageOf, imageBytes, writeImage}
 use Rattle.image.specs.Rebuild.{firstWrong, fitting, judgedImage, slotIn, valueOf, rebuilt, Arrays, arraysOf, tableOf, rebuiltFrom, rebuild}

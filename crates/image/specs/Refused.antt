@@ -6,6 +6,7 @@ use mathlib.Core.Option.{Option, none, some}
 use Prim.Native.Nat.{ℕ, zero, suc, _+_}
 use lib.Dec.{leb, eqb}
 use lib.ListN.{length}
+use Rattle.lists.specs.Tests.{Tests}
 use Rattle.writing.specs.Told.{Told, tells, refused}
 use Rattle.numbers.specs.Numbers.{numberAt}
 use Rattle.records.specs.declared.Record.{Record}
@@ -14,7 +15,6 @@ use Rattle.records.specs.Records.{versionOf, presenceOf, recordAt, recordsFrom}
 use Rattle.summaries.specs.Summaries.{wrongs}
 use Rattle.table.specs.Table.{Table, lengthsFit, hasShape}
 use Rattle.table.specs.Sound.{isSound}
-use Rattle.table.specs.Refused.{Tests}
 use Rattle.image.specs.Image.{imageBytes}
 use Rattle.image.specs.Rebuild.{firstWrong}
 

@@ -74,14 +74,10 @@ fn wide() {
 }
 
 fn cut(image: &[u8]) {
-    let mut end: u8 = 0;
-    while end < 27 {
-        let n = io::count(end as isize, image);
-        if image.len() <= n {
-            break;
-        }
-        judged(&image[..n]);
-        end += 1;
+    let mut n = 0;
+    while n < image.len() {
+        judged(first(image, n));
+        n += 1;
     }
     say(b"\n");
 }

@@ -1,8 +1,7 @@
 -- The worked numbers of the rules. Assumes nothing.
 use mathlib.Core.Path.{_≡_, refl}
-use mathlib.Core.Bool.{true, false}
-use Prim.Native.Nat.{ℕ}
-use Rattle.keys.specs.Keys.{version, asRead, keyOf, numberOf, nullKey, isNull, up, odd}
+use mathlib.Core.Bool.{true}
+use Rattle.keys.specs.Keys.{version, keyOf, numberOf, nullKey, isNull, up, odd}
 
 -- 8589934597 reads as 5v3: its version 2 is read as 3
 five-v-three : keyOf 8589934597 ≡ record { idx = 5; version = 3 }

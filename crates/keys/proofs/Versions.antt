@@ -1,15 +1,12 @@
--- Versions that wrap: up and down, parity, and the next issue. Assumes nothing.
+-- Versions that wrap: up and down, and the next issue. Assumes nothing.
 use mathlib.Core.Path.{_≡_, sym, _∙_}
 use mathlib.Core.Logic.{_≢_}
 use mathlib.Core.Bool.{Bool, true, false}
-use Prim.Native.Nat.{ℕ, _+_, _-_, _%_, _<_}
+use Prim.Native.Nat.{ℕ, _+_, _%_, _<_}
 use native.Mathlib.Omega.{arith}
 use lib.Dec.{eqb}
 use borrow.Author.Tests.{eqb-true, eqb-false}
 use Rattle.keys.specs.Keys.{W, odd, up, down}
-
-pub odd-odd : (v : ℕ) → odd v % 2 ≡ 1
-odd-odd v = omega arith
 
 pub odd-same : (v : ℕ) → v % 2 ≡ 1 → odd v ≡ v
 odd-same v h = omega arith
@@ -23,13 +20,6 @@ down-up v h = omega arith
 
 pub up-down : (v : ℕ) → v < W → up (down v) ≡ v
 up-down v h = omega arith
-
--- the parity changes, also at the wrap
-pub up-parity : (v : ℕ) → up v % 2 ≡ 1 - v % 2
-up-parity v = omega arith
-
-pub down-parity : (v : ℕ) → down v % 2 ≡ 1 - v % 2
-down-parity v = omega arith
 
 -- a slot removed from and taken again issues the version two up, modulo 2 ^ 32
 pub next-issue : (v : ℕ) → v % 2 ≡ 1 → v < W → odd (up v) ≡ (v + 2) % W

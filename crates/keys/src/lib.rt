@@ -1,5 +1,6 @@
 // Keys: the index of a slot and the version that the slot had when the key was issued.
-// Every number given as a key is read by `from_ffi`, and every key is packed by `as_ffi`; no other code takes a key apart.
+// Every number given as a key is read by `from_ffi`, and every key is packed by `as_ffi`; only the replays, whose lists have keys bent in one field, take a
+// number apart besides.
 ghost use mathlib.Core.Path.{_≡_};
 ghost use lib.Dec.{eqb};
 ghost use Prim.Native.Nat.{_%_};

@@ -12,7 +12,7 @@ use lib.ListN.{length, getD, length-append, List·getD-append}
 use lib.Seq.{getD-at, ext-getD}
 use Rattle.lists.specs.Count.{count}
 use Rattle.lists.specs.Listed.{listed, picked}
-use Rattle.lists.proofs.Tests.{split, true-false}
+use Rattle.lists.proofs.Tests.{split}
 use Rattle.lists.proofs.Count.{count-yes, count-no}
 use Rattle.lists.specs.Once.{Once}
 use Rattle.lists.proofs.Once.{once-nil, once-cons, once-append, getD-mem}

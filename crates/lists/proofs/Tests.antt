@@ -2,10 +2,13 @@
 use mathlib.Core.Path.{_≡_, refl, sym, ap, _∙_}
 use mathlib.Core.Bool.{Bool, true, false, cond, not, _&&_}
 use mathlib.Core.Logic.{_⊎_, inl, inr}
+use mathlib.Core.List.{[], _∷_, _++_}
+use mathlib.Core.Option.{Option, none, some}
 use Prim.Native.Nat.{ℕ, _≤_, _<_}
 use native.Mathlib.Omega.{arith}
 use lib.Dec.{ltb}
 use borrow.Author.Tests.{ltb-true, ltb-false, leb-true, eqb-true, lt-ltb, le-ltb, le-leb, lt-leb, eq-eqb, ne-eqb, not-true, not-false}
+use Rattle.lists.specs.Tests.{Tests, first}
 
 -- ---- rulesets: from facts to the tests of a definition, and from a computed `&&` to facts
 
@@ -63,3 +66,14 @@ refuted {r} e h = sym e ∙ not-true r h
 
 pub confirmed : {r b : Bool} → r ≡ b → not r ≡ false → b ≡ true
 confirmed {r} e h = sym e ∙ not-false r h
+
+-- ---- tests in order
+
+-- of two lists of tests, the first that fails stands in the first list, or in the second
+abbrev pub before : Option ℕ → Option ℕ → Option ℕ
+before none g = g
+before (some r) g = some r
+
+pub first-append : (l m : Tests) → first (l ++ m) ≡ before (first l) (first m)
+first-append [] m = refl
+first-append (e ∷ l) m = split (e .0) (λ b. rw b (first-append l m)) (λ b. rw b)

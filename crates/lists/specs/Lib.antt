@@ -3,3 +3,4 @@ pub mod Put
 pub mod Listed
 pub mod Among
 pub mod Once
+pub mod Tests

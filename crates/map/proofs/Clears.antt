@@ -25,6 +25,10 @@ module _ (m : Map) (p : ℕ) where
   pub drain-frame-values : drain m p .1 .values ≡ m .values
   drain-frame-values = by-drain (λ (u : Map). u .values ≡ m .values) m p refl (λ i h. emptied-values m i)
 
+  -- past the slots no version changes
+  drain-past : (j : ℕ) → m .head .s ≤ j → ver (drain m p .1) j ≡ ver m j
+  drain-past j l = by-drain (λ (u : Map). ver u j ≡ ver m j) m p refl (λ i h. emptied-off m i j (λ e. omega arith))
+
 -- a step that answers an element writes its slot's version and no other; one that answers none writes nothing
 module _ (m : Map) (p : ℕ) where
   pub drain-frame-versions : (k x q : ℕ) → drain m p .0 ≡ said-element k x q → (j : ℕ) → j ≢ q - 1 → ver (drain m p .1) j ≡ ver m j
@@ -58,6 +62,11 @@ pub clearing-slots : (n : ℕ) (m : Map) → clearing n m .head .s ≡ m .head .
 unfolding clearing
 clearing-slots zero m = refl
 clearing-slots (suc n) m = clearing-slots n (drain m 0 .1) ∙ drain-frame-slots m 0
+
+pub clearing-past : (n : ℕ) (m : Map) (j : ℕ) → m .head .s ≤ j → ver (clearing n m) j ≡ ver m j
+unfolding clearing
+clearing-past zero m j l = refl
+clearing-past (suc n) m j l = clearing-past n (drain m 0 .1) j (omega (arith, drain-frame-slots m 0)) ∙ drain-past m 0 j l
 
 pub clearing-values : (n : ℕ) (m : Map) → clearing n m .values ≡ m .values
 unfolding clearing

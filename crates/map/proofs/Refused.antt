@@ -3,7 +3,7 @@
 use mathlib.Core.Path.{_≡_, refl, ap, _∙_}
 use mathlib.Core.Logic.{_≢_, _↔_}
 use mathlib.Core.Bool.{Bool, true, false}
-use mathlib.Core.List.{List, [], _∷_, _++_}
+use mathlib.Core.List.{List, [], _∷_}
 use mathlib.Core.Option.{Option, none, some}
 use Prim.Native.Nat.{ℕ, _-_}
 use native.Mathlib.Omega.{arith}
@@ -12,7 +12,7 @@ use lib.ListN.{length}
 use borrow.Author.Tests.{eqb-true, ne-eqb}
 use Rattle.lists.specs.Among.{among}
 use Rattle.lists.specs.Put.{put}
-use Rattle.lists.proofs.Tests.{split, either, true-false}
+use Rattle.lists.proofs.Tests.{split, either, true-false, before, first-append}
 use Rattle.keys.specs.Keys.{idx, version, asRead, keyOf, isNull}
 use Rattle.keys.specs.declared.KeyData.{KeyData}
 use Rattle.rules.specs.declared.Rule.{Rule}
@@ -22,7 +22,8 @@ use Rattle.map.specs.Calls as calls
 use Rattle.map.specs.Calls.{Said, said-value, said-count, said-truth, said-ignored, said-replaced, said-kept, said-stored, said-element, said-done, refused, Out, found, slotIn, slot, lookup, settled, fate, fated, insertKey, insert, leavingFrom, leaving, remove, ahead, met, drain}
 use Rattle.map.specs.Whole.{isWhole}
 use Rattle.map.specs.Sweeps.{asked, retaining, retain, clearing, clear, Slots, slots, misses, slotted, slotsOf, given, disjoint}
-use Rattle.map.specs.Refused.{Tests, first, ruled, slotTests, removeTests, insertTests, drainTests, sweepTests, keyTests, disjointTests, canEnter, enters, inserts, drains, indexes, beside}
+use Rattle.lists.specs.Tests.{first}
+use Rattle.map.specs.Refused.{ruled, slotTests, removeTests, insertTests, drainTests, sweepTests, keyTests, disjointTests, canEnter, enters, inserts, drains, indexes, beside}
 use Rattle.map.proofs.Ways.{version-some}
 
 -- ---- where a refusal is given
@@ -144,14 +145,6 @@ slots-seated m earlier (k ∷ ks) =
     (λ a. rw a (split (isThere m (idx k) (version k))
     (λ b. rw b (ap (slotted (found (idx k))) (slots-seated m (asRead k ∷ earlier) ks) ∙ slotted-seated (idx k) (first (keyTests m (asRead k ∷ earlier) ks)) (indexes ks)))
     (λ b. rw b)))
-
-abbrev before : Option ℕ → Option ℕ → Option ℕ
-before none g = g
-before (some r) g = some r
-
-first-append : (l n : Tests) → first (l ++ n) ≡ before (first l) (first n)
-first-append [] n = refl
-first-append (e ∷ l) n = split (e .0) (λ b. rw b (first-append l n)) (λ b. rw b)
 
 given-ruled : (m : Map) (f : Option ℕ) (is ks out : List ℕ)
     → given m (seated f is) ks out ≡ beside m (ruled out (before f (first ((leb (length ks) (length out), 6) ∷ []))) (said-done, put out 0 is))

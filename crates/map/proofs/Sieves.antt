@@ -2,7 +2,7 @@
 use mathlib.Core.Path.{_≡_, refl, sym, ap, subst, _∙_}
 use mathlib.Core.Logic.{_≢_, by-cases}
 use mathlib.Core.Bool.{Bool, true, false, cond}
-use Prim.Native.Nat.{ℕ, zero, suc, _+_, _-_, _≤_, _<_}
+use Prim.Native.Nat.{ℕ, zero, suc, _+_, _≤_, _<_}
 use native.Mathlib.Omega.{arith}
 use native.Mathlib.Decide.{ℕ-discrete}
 use lib.Dec.{eqb}
@@ -113,6 +113,11 @@ module _ (keeps : ℕ → ℕ → Bool) where
   unfolding retaining
   retaining-before zero i m j l = refl
   retaining-before (suc n) i m j l = retaining-before n (i + 1) (sieved keeps i m) j (omega arith) ∙ sieved-off i m j (omega arith)
+
+  pub retaining-past : (n i : ℕ) (m : Map) (j : ℕ) → i + n ≤ j → ver (retaining keeps n i m) j ≡ ver m j
+  unfolding retaining
+  retaining-past zero i m j l = refl
+  retaining-past (suc n) i m j l = retaining-past n (i + 1) (sieved keeps i m) j (omega arith) ∙ sieved-off i m j (omega arith)
 
   pub retaining-at : (n i : ℕ) (m : Map) (j : ℕ) → i + n ≤ m .head .s → Whole m → i ≤ j → j < i + n → ver (retaining keeps n i m) j ≡ sifted keeps j m
   unfolding retaining

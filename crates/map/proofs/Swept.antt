@@ -1,20 +1,20 @@
--- Fresh, drain step, retain and clear: what is kept whole, what lookup answers afterwards, and that the count is the number of occupied slots.
--- Assumes nothing.
-use mathlib.Core.Path.{_≡_, sym, ap, subst, _∙_}
+-- Fresh, drain step, retain and clear: what is kept whole, what stays as it was, what lookup answers afterwards, and that the count is the number of
+-- occupied slots. Assumes nothing.
+use mathlib.Core.Path.{_≡_, refl, sym, ap, subst, _∙_}
 use mathlib.Core.Logic.{_≢_, by-cases}
 use mathlib.Core.Bool.{true, false, cond}
 use mathlib.Core.List.{List}
-use Prim.Native.Nat.{ℕ, _<_}
+use Prim.Native.Nat.{ℕ, _≤_, _<_}
 use native.Mathlib.Omega.{arith}
 use native.Mathlib.Decide.{decLt}
 use lib.ListN.{getD}
 use Rattle.lists.specs.Count.{count}
-use Rattle.lists.proofs.Tests.{split, false-if}
+use Rattle.lists.proofs.Tests.{split, either, false-if}
 use Rattle.keys.specs.Keys.{idx, version}
 use Rattle.rules.specs.declared.Rule.{Rule}
 use Rattle.rules.specs.Rules.{keepsOf}
 use Rattle.map.specs.Map.{Map, ver, val, isOccupied, lengthsFit, hasShape, isThere}
-use Rattle.map.specs.Calls.{said-value, said-count, said-done, freshMap, len, lookup, ahead, drain, gone}
+use Rattle.map.specs.Calls.{said-value, said-count, said-done, Out, freshMap, len, lookup, ahead, drain, gone}
 use Rattle.map.specs.Whole.{Whole, isWhole}
 use Rattle.map.specs.Sweeps.{asked, retaining, retain, clearing, clear}
 use Rattle.map.proofs.Whole.{whole-passes}
@@ -24,8 +24,8 @@ use Rattle.map.proofs.Drains.{none-ahead, drain-nothing}
 use Rattle.map.proofs.Ways.{version-some}
 use Rattle.map.proofs.Wholes.{whole-fresh-map}
 use Rattle.map.proofs.Lookups.{gone-same, answer, after, lookup-has, has-lookup}
-use Rattle.map.proofs.Sieves.{whole-retaining, retaining-slots, retaining-values, retaining-at}
-use Rattle.map.proofs.Clears.{clearing-slots, clearing-values, whole-clearing, cleared-vacant}
+use Rattle.map.proofs.Sieves.{whole-retaining, retaining-slots, retaining-values, retaining-past, retaining-at}
+use Rattle.map.proofs.Clears.{clearing-slots, clearing-past, clearing-values, whole-clearing, cleared-vacant}
 
 -- ---- the count
 
@@ -61,17 +61,36 @@ module _ (m u : Map) where
       (λ sh. split (isWhole m) (λ h. absurd (ne (rw (sh, h)))) (λ h. rw (sh, h)))
       (λ sh. rw sh)
 
-  -- and where they are not, the values stay
-  asked-values : u .values ≡ m .values → asked m u .1 .values ≡ m .values
-  asked-values e = split (hasShape m) (λ sh. split (isWhole m) (λ h. rw (sh, h) e) (λ h. rw (sh, h))) (λ sh. rw sh)
+  -- what holds of the map, and of the one that is swept, holds afterwards
+  asked-either : (P : Map → Type 0) → P m → P u → P (asked m u .1)
+  asked-either P p q =
+      either (λ (o : Out). P (o .1)) (hasShape m) _ _ (either (λ (o : Out). P (o .1)) (isWhole m) _ _ q p) p
 
+-- the values stay, and s, and the versions past the slots
 pub retain-frame-values : (m : Map) (rule : Rule) → retain m rule .1 .values ≡ m .values
 unfolding retain
-retain-frame-values m rule = asked-values m _ (retaining-values (keepsOf rule) (m .head .s) 0 m)
+retain-frame-values m rule = asked-either m _ (λ (u : Map). u .values ≡ m .values) refl (retaining-values (keepsOf rule) (m .head .s) 0 m)
 
 pub clear-frame-values : (m : Map) → clear m .1 .values ≡ m .values
 unfolding clear
-clear-frame-values m = asked-values m _ (clearing-values (m .head .count) m)
+clear-frame-values m = asked-either m _ (λ (u : Map). u .values ≡ m .values) refl (clearing-values (m .head .count) m)
+
+pub retain-frame-slots : (m : Map) (rule : Rule) → retain m rule .1 .head .s ≡ m .head .s
+unfolding retain
+retain-frame-slots m rule = asked-either m _ (λ (u : Map). u .head .s ≡ m .head .s) refl (retaining-slots (keepsOf rule) (m .head .s) 0 m)
+
+pub clear-frame-slots : (m : Map) → clear m .1 .head .s ≡ m .head .s
+unfolding clear
+clear-frame-slots m = asked-either m _ (λ (u : Map). u .head .s ≡ m .head .s) refl (clearing-slots (m .head .count) m)
+
+pub retain-frame-versions : (m : Map) (rule : Rule) (j : ℕ) → m .head .s ≤ j → ver (retain m rule .1) j ≡ ver m j
+unfolding retain
+retain-frame-versions m rule j l =
+    asked-either m _ (λ (u : Map). ver u j ≡ ver m j) refl (retaining-past (keepsOf rule) (m .head .s) 0 m j (omega arith))
+
+pub clear-frame-versions : (m : Map) (j : ℕ) → m .head .s ≤ j → ver (clear m .1) j ≡ ver m j
+unfolding clear
+clear-frame-versions m j l = asked-either m _ (λ (u : Map). ver u j ≡ ver m j) refl (clearing-past (m .head .count) m j l)
 
 pub retain-refused-keeps : (m : Map) (rule : Rule) → retain m rule .0 ≢ said-done → retain m rule .1 ≡ m
 unfolding retain

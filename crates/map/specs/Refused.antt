@@ -1,5 +1,5 @@
 -- The refusals in their order (the rules, sections "Secondary map" and "Refusal numbers and their order"): the tests of each call, and what
--- is done where all hold. `Tests`, `first` and `ruled` are the dense table's words said again, since neither map knows of the other.
+-- is done where all hold. `ruled` says what the dense table's says, over this map's answers.
 -- Assumes nothing.
 use mathlib.Core.Bool.{Bool, true, cond, not}
 use mathlib.Core.List.{List, [], _∷_, _++_}
@@ -8,21 +8,12 @@ use Prim.Native.Nat.{ℕ, _+_, _-_}
 use lib.Dec.{leb, ltb, eqb}
 use lib.ListN.{length}
 use Rattle.lists.specs.Among.{among}
+use Rattle.lists.specs.Tests.{Tests}
 use Rattle.keys.specs.Keys.{idx, version, asRead, isNull}
 use Rattle.keys.specs.declared.KeyData.{KeyData}
 use Rattle.map.specs.Map.{Map, ver, val, isVacant, hasShape, isThere, absent, older, grown, withValue, stored, emptied}
 use Rattle.map.specs.Calls.{Said, said-ignored, said-replaced, said-kept, said-stored, said-done, refused, Out, ahead, element}
 use Rattle.map.specs.Whole.{isWhole}
-
--- ---- tests in order, each with the number of its refusal
-
-abbrev pub Tests : Type 0
-Tests = List (Bool × ℕ)
-
--- the number of the first test that fails
-abbrev pub first : Tests → Option ℕ
-first [] = none
-first (e ∷ l) = cond (e .0) (first l) (some (e .1))
 
 -- "each gives its number only and writes nothing": refused with that number, and u is as it was; else the outcome o
 abbrev pub ruled : {A : Type 0} → A → Option ℕ → Said × A → Said × A

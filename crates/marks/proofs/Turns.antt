@@ -58,11 +58,6 @@ toggled-comm vs k j =
 
 -- ---- the slots of a list of keys
 
-pub length-marked : (vs ks : List ℕ) → length (marked vs ks) ≡ length vs
-unfolding marked
-length-marked vs [] = refl
-length-marked vs (k ∷ ks) = length-marked (toggled vs k) ks ∙ length-toggled vs k
-
 pub marked-snoc : (vs ks : List ℕ) (k : ℕ) → marked vs (ks ++ (k ∷ [])) ≡ toggled (marked vs ks) k
 unfolding marked
 marked-snoc vs [] k = refl

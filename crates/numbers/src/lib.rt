@@ -1,5 +1,5 @@
 // Seven-bit numbers, unsigned LEB128 in shortest form: what they are, and what one byte makes of the groups before it.
-// One worker over the largest number serves every width.
+// `take_byte` is given the largest number, so it serves every width.
 ghost use mathlib.Core.Path.{_≡_};
 ghost use Rattle.numbers.specs.Numbers.{stepOf, takeOf};
 use refusal::Refusal;

@@ -1,9 +1,6 @@
 -- No second outcome of `read_u32` and `read_u64`: what their answer says is one-to-one. Assumes nothing.
-use Prim.Native.Nat.{ℕ}
 use mathlib.Core.Path.{_≡_, sym, ap, ap₂}
-use Rattle.lists.proofs.Only.{only-read}
 use Rattle.refusal.proofs.Numbers.{number-one-to-one}
-use Rattle.writing.specs.Told.{Told}
 use Rattle.writing.proofs.Told.{never, told, refused-same, both}
 use Rattle.numbers_read.specs.Reading.{readingOf}
 use Rattle.numbers_read.specs.declared.Number.{Number}
@@ -14,6 +11,3 @@ reading-one-to-one (Read v n) (Read w m) e = let p = both (told e) in ap₂ Read
 reading-one-to-one (Read v n) (Refused k) e = never (sym e)
 reading-one-to-one (Refused k) (Read v n) e = never e
 reading-one-to-one (Refused k) (Refused j) e = ap Refused (number-one-to-one k j (refused-same e))
-
-pub only-number : {x : Told (ℕ × ℕ)} {r q : Number} → readingOf r ≡ x → readingOf q ≡ x → r ≡ q
-only-number = only-read readingOf reading-one-to-one

@@ -1,13 +1,9 @@
 -- No second outcome: each answer's reading is one-to-one, so a contract that gives the reading is met by one outcome only. What writes a
 -- record answers as a number's writer does. Assumes nothing.
-use Prim.Native.Nat.{ℕ}
 use mathlib.Core.Path.{_≡_, sym, ap, ap₂}
-use Rattle.lists.proofs.Only.{only-read}
 use Rattle.refusal.proofs.Numbers.{number-one-to-one}
-use Rattle.writing.specs.Told.{Told}
 use Rattle.writing.proofs.Told.{never, told, refused-same, both}
 use Rattle.records.specs.Records.{recordOf}
-use Rattle.records.specs.declared.Record.{Record}
 use Rattle.records.specs.declared.RecordRead.{RecordRead}
 use Rattle.records.specs.declared.RecordRead.the-variants.{Read, Refused}
 
@@ -16,6 +12,3 @@ record-one-to-one (Read x n) (Read y m) e = let p = both (told e) in ap₂ Read 
 record-one-to-one (Read x n) (Refused k) e = never (sym e)
 record-one-to-one (Refused k) (Read x n) e = never e
 record-one-to-one (Refused k) (Refused j) e = ap Refused (number-one-to-one k j (refused-same e))
-
-pub only-record : {x : Told (Record × ℕ)} {r q : RecordRead} → recordOf r ≡ x → recordOf q ≡ x → r ≡ q
-only-record = only-read recordOf record-one-to-one

@@ -8,11 +8,8 @@ use answers::tested;
 use answers::value;
 use made::Made;
 use made::begun;
-use made::detach;
-use made::insert;
-use made::put;
-use made::reattach;
-use made::remove;
+use made_call::Call;
+use made_call::make;
 use replay::Line;
 use replay_lines::NO_LINE;
 use replay_state::state;
@@ -79,7 +76,30 @@ fn look(
     look_at(h, versions, links, keys, values, op, k)
 }
 
-// Makes the call of a line. A key is its last two numbers, or the two before the value.
+fn changes(op: u8) -> bool {
+    op == b'i' || op == b'r' || op == b'd' || op == b'a' || op == b'p'
+}
+
+// The call that may change the table: an insert, a remove, a detach, a reattach or a put. A key is the last two numbers, or the two before the value.
+fn change(line: Line) -> Call {
+    if line.op == b'i' {
+        return Call::Insert(line.c);
+    }
+    if line.op == b'r' {
+        return Call::Remove(line.key());
+    }
+    if line.op == b'd' {
+        return Call::Detach(line.key());
+    }
+    let key = line.key_of_value();
+    let value = line.c;
+    if line.op == b'a' {
+        return Call::Reattach { key, value };
+    }
+    Call::Put { key, value }
+}
+
+// Makes the call of a line.
 pub(crate) fn call(
     h: Header,
     versions: &mut [u32],
@@ -92,21 +112,8 @@ pub(crate) fn call(
     if op == b'C' {
         return begun(h, dense::fresh(versions, links, keys, values));
     }
-    if op == b'i' {
-        return insert(h, versions, links, keys, values, line.c);
-    }
-    if op == b'r' {
-        return remove(h, versions, links, keys, values, line.key());
-    }
-    if op == b'd' {
-        return detach(h, versions, links, keys, values, line.key());
-    }
-    let k = line.key_of_value();
-    if op == b'a' {
-        return reattach(h, versions, links, keys, values, k, line.c);
-    }
-    if op == b'p' {
-        return put(h, versions, links, keys, values, k, line.c);
+    if changes(op) {
+        return make(h, versions, links, keys, values, change(line));
     }
     Made {
         header: h,

@@ -4,18 +4,22 @@ use answers::DIGEST;
 use answers::WRITTEN;
 use made::Made;
 use made::begun;
-use made::detach;
-use made::insert;
-use made::remove;
+use made_call::Call;
+use made_call::make;
 use replay::Line;
 use replay_lines::NO_LINE;
 use replay_state::state;
 use table::Header;
 use writing::Written;
 
-// What an image would be rebuilt as, in a table of so many slots at most.
-fn judge(bytes: &[u8], most: usize) -> Answer {
-    image_answers::counts(image_judge::judge_image(bytes, most))
+// Room for an image.
+pub(crate) const IMAGE: usize = 65_600;
+
+// What the image that a line of the input spells would be rebuilt as, in a table of so many slots at most.
+fn judge(input: &[u8], at: usize, most: usize) -> Answer {
+    let mut image = [0u8; IMAGE];
+    let n = replay_input::image_at(input, at, &mut image);
+    image_answers::counts(image_judge::judge_image(lines::first(&image, n), most))
 }
 
 fn length(h: Header, versions: &[u32], links: &[u32], keys: &[u64], values: &[u64]) -> Answer {
@@ -55,7 +59,8 @@ fn look(
     keys: &[u64],
     values: &[u64],
     out: &mut [u8],
-    image: &[u8],
+    input: &[u8],
+    at: usize,
     op: u8,
 ) -> Answer {
     if op == b's' {
@@ -65,7 +70,7 @@ fn look(
         return length(h, versions, links, keys, values);
     }
     if op == b'J' {
-        return judge(image, versions.len());
+        return judge(input, at, versions.len());
     }
     if op == b'W' || op == b'D' {
         return write(h, versions, links, keys, values, out, op == b'D');
@@ -73,33 +78,38 @@ fn look(
     Answer::of(NO_LINE, 0)
 }
 
-// The calls that begin a table, store an element or take one out.
-fn edit(
+fn changes(op: u8) -> bool {
+    op == b'i' || op == b'r' || op == b'd'
+}
+
+// The call that may change the table: an insert, a remove or a detach.
+fn change(line: Line) -> Call {
+    if line.op == b'i' {
+        return Call::Insert(line.c);
+    }
+    if line.op == b'r' {
+        return Call::Remove(line.key());
+    }
+    Call::Detach(line.key())
+}
+
+// A table rebuilt from the image that a line of the input spells.
+fn rebuilt(
     h: Header,
     versions: &mut [u32],
     links: &mut [u32],
     keys: &mut [u64],
     values: &mut [u64],
-    line: Line,
+    input: &[u8],
+    at: usize,
 ) -> Made {
-    let op = line.op;
-    if op == b'C' {
-        return begun(h, dense::fresh(versions, links, keys, values));
-    }
-    if op == b'i' {
-        return insert(h, versions, links, keys, values, line.c);
-    }
-    if op == b'r' {
-        return remove(h, versions, links, keys, values, line.key());
-    }
-    detach(h, versions, links, keys, values, line.key())
+    let mut image = [0u8; IMAGE];
+    let n = replay_input::image_at(input, at, &mut image);
+    let bytes = lines::first(&image, n);
+    begun(h, image_read::rebuild(versions, links, keys, values, bytes))
 }
 
-fn edits(op: u8) -> bool {
-    op == b'C' || op == b'i' || op == b'r' || op == b'd'
-}
-
-// Makes the call of a line. The image is the one that the line spells.
+// Makes the call of the line at a place of the input.
 pub(crate) fn call(
     h: Header,
     versions: &mut [u32],
@@ -107,18 +117,22 @@ pub(crate) fn call(
     keys: &mut [u64],
     values: &mut [u64],
     out: &mut [u8],
-    image: &[u8],
+    input: &[u8],
+    at: usize,
     line: Line,
 ) -> Made {
     let op = line.op;
-    if edits(op) {
-        return edit(h, versions, links, keys, values, line);
+    if op == b'C' {
+        return begun(h, dense::fresh(versions, links, keys, values));
     }
     if op == b'R' {
-        return begun(h, image_read::rebuild(versions, links, keys, values, image));
+        return rebuilt(h, versions, links, keys, values, input, at);
+    }
+    if changes(op) {
+        return make(h, versions, links, keys, values, change(line));
     }
     Made {
         header: h,
-        answer: look(h, versions, links, keys, values, out, image, op),
+        answer: look(h, versions, links, keys, values, out, input, at, op),
     }
 }

@@ -3,28 +3,29 @@ mod calls;
 
 use answers::Answer;
 use answers::WRITTEN;
+use calls::IMAGE;
 use libc::STDIN_FILENO;
 use libc::STDOUT_FILENO;
 use replay::least;
 use replay_bend::Lent;
 use table::Header;
 
-// Room for the list, for each array of a table, and for an image.
+// Room for the list, and for each array of a table.
 const INPUT: usize = 1_500_000;
 
 const ROOM: usize = 4100;
 
-const IMAGE: usize = 65_600;
+// The text of an answer, or of the image that was written.
+fn told(answer: Answer, out: &[u8], text: &mut [u8]) -> usize {
+    if answer.kind == WRITTEN {
+        return replay_hex::write_image(lines::first(out, answer.a as usize), text);
+    }
+    replay_lines::write_answer(answer, &[], text)
+}
 
-// An answer, or the image that was written.
 fn tell(answer: Answer, out: &[u8; IMAGE]) {
     let mut text = [0u8; 1000];
-    if answer.kind == WRITTEN {
-        let n = replay_hex::write_image(lines::first(out, answer.a as usize), &mut text);
-        io::write_all(STDOUT_FILENO, lines::first(&text, n));
-        return;
-    }
-    let n = replay_lines::write_answer(answer, &[], &mut text);
+    let n = told(answer, out, &mut text);
     io::write_all(STDOUT_FILENO, lines::first(&text, n));
 }
 
@@ -35,13 +36,11 @@ fn run(input: &[u8]) {
     let mut keys = [0x5a5a_5a5a_5a5a_5a5au64; ROOM];
     let mut values = [0x5a5a_5a5a_5a5a_5a5au64; ROOM];
     let mut out = [0x5au8; IMAGE];
-    let mut image = [0u8; IMAGE];
     let mut h = Header { n: 0, s: 0, f: 0 };
     let mut lent = Lent::none();
     let mut at = 0;
     while at < input.len() {
         let line = replay_input::line_at(input, at);
-        let spelled = replay_input::image_at(input, at, &mut image);
         lent = replay_bend::lend(lent, line);
         replay_bend::cells(&mut versions, &mut links, &mut keys, &mut values, line);
         let a = least(lent.versions, ROOM);
@@ -56,7 +55,8 @@ fn run(input: &[u8]) {
             &mut keys[..k],
             &mut values[..v],
             &mut out[..o],
-            lines::first(&image, spelled),
+            input,
+            at,
             line,
         );
         let answer = made.answer;

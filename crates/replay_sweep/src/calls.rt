@@ -3,16 +3,17 @@ use answers::Answer;
 use answers::DIGEST;
 use made::Made;
 use made::begun;
-use made::insert;
-use made_sweep::clear;
+use made_call::Call;
+use made_call::make;
 use made_sweep::disjoint;
-use made_sweep::drain_step;
 use made_sweep::drain_step_by;
-use made_sweep::retain;
 use replay::Line;
 use replay_lines::NO_LINE;
 use replay_state::state;
 use table::Header;
+
+// Room for an image.
+const IMAGE: usize = 65_600;
 
 // The places of the keys that wait, and the whole state. Any other letter is no call.
 fn look(
@@ -35,33 +36,41 @@ fn look(
     Answer::of(NO_LINE, 0)
 }
 
-fn sweeps(op: u8) -> bool {
-    op == b'z' || op == b'y' || op == b'e' || op == b'v' || op == b'm' || op == b'x'
+fn changes(op: u8) -> bool {
+    op == b'i' || op == b'z' || op == b'e' || op == b'v' || op == b'm' || op == b'x'
 }
 
-// The calls that sweep: a step of a drain, a clear, a retain.
-fn sweep(
+// The call that may change the table: an insert, a step of a drain, a clear, or a retain by one of three rules.
+fn change(line: Line) -> Call {
+    if line.op == b'i' {
+        return Call::Insert(line.c);
+    }
+    if line.op == b'z' {
+        return Call::Drain;
+    }
+    if line.op == b'e' {
+        return Call::Clear;
+    }
+    Call::Retain(line.rule())
+}
+
+// A table rebuilt from the image that a line of the input spells.
+fn rebuilt(
     h: Header,
     versions: &mut [u32],
     links: &mut [u32],
     keys: &mut [u64],
     values: &mut [u64],
-    line: Line,
+    input: &[u8],
+    at: usize,
 ) -> Made {
-    let op = line.op;
-    if op == b'z' {
-        return drain_step(h, versions, links, keys, values);
-    }
-    if op == b'y' {
-        return drain_step_by(h, versions, links, keys, values);
-    }
-    if op == b'e' {
-        return clear(h, versions, links, keys, values);
-    }
-    retain(h, versions, links, keys, values, line.rule())
+    let mut image = [0u8; IMAGE];
+    let n = replay_input::image_at(input, at, &mut image);
+    let bytes = lines::first(&image, n);
+    begun(h, image_read::rebuild(versions, links, keys, values, bytes))
 }
 
-// Makes the call of a line. A rebuild is from the image that the line spells.
+// Makes the call of the line at a place of the input.
 pub(crate) fn call(
     h: Header,
     versions: &mut [u32],
@@ -70,7 +79,8 @@ pub(crate) fn call(
     values: &mut [u64],
     places: &mut [u32],
     wanted: &[u64],
-    image: &[u8],
+    input: &[u8],
+    at: usize,
     line: Line,
 ) -> Made {
     let op = line.op;
@@ -78,13 +88,13 @@ pub(crate) fn call(
         return begun(h, dense::fresh(versions, links, keys, values));
     }
     if op == b'R' {
-        return begun(h, image_read::rebuild(versions, links, keys, values, image));
+        return rebuilt(h, versions, links, keys, values, input, at);
     }
-    if op == b'i' {
-        return insert(h, versions, links, keys, values, line.c);
+    if op == b'y' {
+        return drain_step_by(h, versions, links, keys, values);
     }
-    if sweeps(op) {
-        return sweep(h, versions, links, keys, values, line);
+    if changes(op) {
+        return make(h, versions, links, keys, values, change(line));
     }
     Made {
         header: h,

@@ -8,14 +8,12 @@ use replay::least;
 use replay_bend::Lent;
 use table::Header;
 
-// Room for the list, for each array of a table, for the places and keys of a disjoint, and for an image.
+// Room for the list, for each array of a table, and for the places and keys of a disjoint.
 const INPUT: usize = 1_500_000;
 
 const ROOM: usize = 4100;
 
 const PLACES: usize = 8;
-
-const IMAGE: usize = 65_600;
 
 fn tell(answer: Answer, places: &[u32; PLACES]) {
     let mut text = [0u8; 200];
@@ -31,14 +29,12 @@ fn run(input: &[u8]) {
     let mut values = [0x5a5a_5a5a_5a5a_5a5au64; ROOM];
     let mut places = [0x5a5a_5a5au32; PLACES];
     let mut wanted = [0u64; PLACES];
-    let mut image = [0u8; IMAGE];
     let mut count = 0;
     let mut h = Header { n: 0, s: 0, f: 0 };
     let mut lent = Lent::none();
     let mut at = 0;
     while at < input.len() {
         let line = replay_input::line_at(input, at);
-        let spelled = replay_input::image_at(input, at, &mut image);
         lent = replay_bend::lend(lent, line);
         replay_bend::cells(&mut versions, &mut links, &mut keys, &mut values, line);
         let a = least(lent.versions, ROOM);
@@ -55,7 +51,8 @@ fn run(input: &[u8]) {
             &mut values[..v],
             &mut places[..o],
             &wanted[..w],
-            lines::first(&image, spelled),
+            input,
+            at,
             line,
         );
         let answer = made.answer;

@@ -1,7 +1,6 @@
 // The lines of a script, run on a table: what a line asks for is done, and the answer is written as one line of text.
 ghost use mathlib.Core.Path.{_≡_};
 ghost use Prim.Native.Nat.{_+_, _≤_};
-ghost use lib.Dec.{leb};
 ghost use Rattle.writing.specs.Writing.{toldOf};
 ghost use Rattle.dense.specs.Lent.{before, after};
 ghost use Rattle.script_say.specs.Says.{room};
@@ -13,6 +12,7 @@ use script_say::ROOM;
 use script_say::say;
 use table::Header;
 use writing::Written;
+use writing::has_room;
 
 // How many elements the script's table may have.
 pub const CAPACITY: usize = 1000;
@@ -21,16 +21,6 @@ pub const CAPACITY: usize = 1000;
 pub struct Ran {
     pub header: Header,
     pub end: Written,
-}
-
-// Whether the longest line fits from a place on into a buffer of this size. The place and the room are never added: their sum may not fit a usize.
-fn has_room(at: usize, size: usize) -> bool
-    ensures { λ r. ⌜ r ≡ leb (at + room) size ⌝ }
-{
-    if size < at {
-        return false;
-    }
-    ROOM <= size - at
 }
 
 // Runs one line, given without its newline, and writes its answer from a place of a buffer on. The room for the longest answer is judged
@@ -47,7 +37,7 @@ pub fn run_line(
 ) -> Ran
     ensures { λ r. ⌜ (ranOf (r .end) (after versions links keys values (r .header)) (now (out .exit)) ≡ ran (before versions links keys values h) (now (line .entry)) at (now (out .entry))) × (endOf (toldOf (r .end)) ≤ at + room) ⌝ }
 {
-    if !has_room(at, out.len()) {
+    if !has_room(at, ROOM, out.len()) {
         return Ran {
             header: h,
             end: Written::Refused(Refusal::Short),

@@ -1,7 +1,7 @@
 -- Texts after texts in a buffer, and how long the line of an answer is. Assumes nothing.
 use mathlib.Core.Path.{_≡_, refl, sym, ap, ap₂, _∙_}
 use mathlib.Core.List.{List, [], _∷_, _++_}
-use Prim.Native.Nat.{ℕ, _+_, _^_, _≤_, _<_, _/_}
+use Prim.Native.Nat.{ℕ, _+_, _^_, _≤_, _<_}
 use native.Mathlib.Omega.{arith}
 use lib.ListN.{length, take, drop, length-append}
 use lib.Seq.{take-at}
@@ -17,21 +17,18 @@ use Rattle.writing.specs.declared.Written.the-variants.{End}
 use Rattle.writing.specs.declared.Written.the-variants as written-variants
 use Rattle.writing.specs.Told.{Told, tells, refused}
 use Rattle.writing.specs.Writing.{toldOf, outcome, written, writtenAfter}
-use Rattle.text.specs.Text.{decimal, keyText}
+use Rattle.text.specs.Text.{decimal, keyText, okText, refusedText}
 use Rattle.writing.proofs.Writing.{written-refused, then-end, written-then, written-fits}
-use Rattle.text.proofs.Decimal.{length-decimal, length-decimal-64, digits-short}
+use Rattle.text.proofs.Decimal.{length-decimal-32, length-decimal-64}
 use Rattle.text.proofs.Keys.{key-text-null, key-text-length}
 use Rattle.table.specs.Calls.{Said, said-key, said-value, said-done, said-count}
 use Rattle.table.specs.Calls as calls
 use Rattle.script_look.specs.declared.Answer.{Answer}
 use Rattle.script_look.specs.declared.Answer.the-variants.{Key, Value, Done, Count, Refused}
 use Rattle.script_look.specs.Answers.{answerSaid}
-use Rattle.script_say.specs.Says.{okText, refusedText, newline, answerText, lineOut, room, lined}
+use Rattle.script_say.specs.Says.{newline, answerText, lineOut, room, lined}
 
 -- ---- how long a line is
-
-decimal-32 : (n : ℕ) → n < W → length (decimal n) ≤ 10
-decimal-32 n h = omega (arith, length-decimal n, digits-short 9 (n / 10) (omega arith))
 
 line-length : (a : Said) → length (lineOut a) ≡ length (answerText a) + 1
 unfolding lineOut
@@ -51,7 +48,7 @@ done-short = omega (arith, line-length said-done)
 
 pub refused-short : (r : ℕ) → r < W → length (lineOut (calls.refused r)) ≤ room
 unfolding answerText
-refused-short r h = omega (arith, line-length (calls.refused r), length-append refusedText (decimal r), decimal-32 r h)
+refused-short r h = omega (arith, line-length (calls.refused r), length-append refusedText (decimal r), length-decimal-32 r h)
 
 number-small : (r : Refusal) → numberOf r < W
 number-small Shape = omega arith
@@ -75,7 +72,7 @@ pub key-short : (k : ℕ) → length (lineOut (said-key k)) ≤ room
 unfolding answerText
 key-short k =
     split (isNull (keyOf k)) (λ e. omega (arith, line-length (said-key k), ap length (key-text-null (keyOf k) e)))
-    (λ e. omega (arith, line-length (said-key k), key-text-length (keyOf k) e, decimal-32 (idx k) (omega arith), decimal-32 (version k) (version-word k)))
+    (λ e. omega (arith, line-length (said-key k), key-text-length (keyOf k) e, length-decimal-32 (idx k) (omega arith), length-decimal-32 (version k) (version-word k)))
 
 -- ---- an answer's text, by its kind, and how long its line is
 
@@ -123,7 +120,7 @@ module _ (at : ℕ) (b d : List ℕ) {w : Written} (fits : at + room ≤ length 
       rw f (then-end (decimal (numberOf r)) d e ∙ written-then at refusedText (decimal (numberOf r)) b enough first)
     where
       enough : at + length (refusedText ++ decimal (numberOf r)) ≤ length b
-      enough = omega (arith, length-append refusedText (decimal (numberOf r)), decimal-32 (numberOf r) (number-small r))
+      enough = omega (arith, length-append refusedText (decimal (numberOf r)), length-decimal-32 (numberOf r) (number-small r))
 
   pub refusal-fits : {r : Refusal} → w ≡ written-variants.Refused r → ⊥
   refusal-fits {r} e =

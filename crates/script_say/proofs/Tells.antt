@@ -8,12 +8,12 @@ use lib.ListN.{getD}
 use Rattle.lists.proofs.Tests.{split}
 use Rattle.keys.specs.Keys.{idx, version, asRead, keyOf, numberOf, isNull}
 use Rattle.keys.proofs.Keys.{number-key}
-use Rattle.text.specs.Text.{decimal, digitOf, valueFrom, valueOf}
+use Rattle.text.specs.Text.{decimal, digitOf, valueFrom, valueOf, refusedText}
 use Rattle.text.proofs.Decimal.{digits-zero}
 use Rattle.text.proofs.Reading.{value-decimal-then, decimal-one-to-one}
-use Rattle.text.proofs.Keys.{key-text-null, key-text-plain, key-text-one-to-one}
+use Rattle.text.proofs.Keys.{key-text-null, key-text-plain, stops-at-letter, key-text-one-to-one}
 use Rattle.table.specs.Calls.{Said, said-key, said-value, said-done, said-count, refused}
-use Rattle.script_say.specs.Says.{refusedText, newline, answerText, lineOut}
+use Rattle.script_say.specs.Says.{newline, answerText, lineOut}
 
 -- the newline after both is no part of the answers
 line-text : (a b : Said) → lineOut a ≡ lineOut b → answerText a ≡ answerText b
@@ -43,10 +43,6 @@ key-tells k j p q e =
 stops-at-newline : (n : ℕ) (t : List ℕ) → valueFrom n (newline ∷ t) ≡ n
 unfolding digitOf
 stops-at-newline n t = refl
-
-stops-at-letter : (n : ℕ) (t : List ℕ) → valueFrom n (118 ∷ t) ≡ n
-unfolding digitOf
-stops-at-letter n t = refl
 
 no-value : (s : List ℕ) → valueOf (114 ∷ s) ≡ 0
 unfolding digitOf

@@ -5,16 +5,8 @@ use lib.ListN.{length}
 use Rattle.lists.specs.Put.{put}
 use Rattle.keys.specs.Keys.{keyOf}
 use Rattle.writing.specs.Told.{Told, tells}
-use Rattle.text.specs.Text.{decimal, keyText}
-use Rattle.writing.specs.Told as told
+use Rattle.text.specs.Text.{decimal, keyText, okText, refusedText}
 use Rattle.table.specs.Calls.{Said, said-key, said-value, said-pair, said-done, said-count, said-truth, refused}
-
--- `ok`, and `refused ` with its space
-abbrev pub okText : List ℕ
-okText = 111 ∷ 107 ∷ []
-
-abbrev pub refusedText : List ℕ
-refusedText = 114 ∷ 101 ∷ 102 ∷ 117 ∷ 115 ∷ 101 ∷ 100 ∷ 32 ∷ []
 
 abbrev pub newline : ℕ
 newline = 10

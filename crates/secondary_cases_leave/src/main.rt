@@ -1,5 +1,5 @@
-// Situations of the secondary map, each run through the real arrays: lookups, and what removes, drain steps and sweeps leave. The remarks of standard input
-// say what the rules give, one before each situation; the lines after a remark are what the calls answer.
+// Situations of the secondary map, each run through the real arrays: lookups, disjoint, and what removes, drain steps and sweeps leave. The remarks of standard
+// input say what the rules give, one before each situation; the lines after a remark are what the calls answer.
 use answers::Answer;
 use keys::KeyData;
 use libc::STDIN_FILENO;

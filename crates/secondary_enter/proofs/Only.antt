@@ -1,5 +1,5 @@
 -- No second outcome of insert: two outcomes that meet one contract are the same answer, header and arrays. Assumes nothing.
-use mathlib.Core.Path.{_≡_, sym, ap, ap₂, _∙_}
+use mathlib.Core.Path.{_≡_, ap, ap₂}
 use mathlib.Core.List.{List}
 use Prim.Native.Nat.{ℕ}
 use Rattle.refusal.specs.Refusals.{numberOf}

@@ -1,12 +1,8 @@
 -- No second outcome: a judgement's reading is one-to-one, so a contract that gives the reading is met by one outcome only. Assumes nothing.
-use Prim.Native.Nat.{ℕ}
 use mathlib.Core.Path.{_≡_, sym, ap, ap₂}
-use Rattle.lists.proofs.Only.{only-read}
 use Rattle.refusal.proofs.Numbers.{number-one-to-one}
-use Rattle.writing.specs.Told.{Told}
 use Rattle.writing.proofs.Told.{never, told, refused-same, both}
 use Rattle.summaries.specs.Summaries.{judgementOf}
-use Rattle.summaries.specs.declared.Summary.{Summary}
 use Rattle.summaries.specs.declared.Judged.{Judged}
 use Rattle.summaries.specs.declared.Judged.the-variants.{Fine, Refused}
 
@@ -15,6 +11,3 @@ judgement-one-to-one (Fine n s) (Fine m t) e = let p = both (told e) in ap₂ Fi
 judgement-one-to-one (Fine n s) (Refused k) e = never (sym e)
 judgement-one-to-one (Refused k) (Fine n s) e = never e
 judgement-one-to-one (Refused k) (Refused j) e = ap Refused (number-one-to-one k j (refused-same e))
-
-pub only-judgement : {x : Told (ℕ × Summary)} {r q : Judged} → judgementOf r ≡ x → judgementOf q ≡ x → r ≡ q
-only-judgement = only-read judgementOf judgement-one-to-one

@@ -1,5 +1,5 @@
 -- What is kept of the records, one by one and of them all; and what a turn of the judge's loop makes of what is still to be read. Assumes nothing.
-use Prim.Native.Nat.{ℕ, suc, _+_, _-_, _^_, _≤_, _<_}
+use Prim.Native.Nat.{ℕ, suc, _+_, _^_, _≤_, _<_}
 use mathlib.Core.Path.{_≡_, refl, sym, ap, _∙_}
 use mathlib.Core.Bool.{cond}
 use mathlib.Core.List.{List, [], _∷_}
@@ -10,16 +10,13 @@ use lib.ListN.{length}
 use borrow.Author.Tests.{lt-ltb, le-ltb, ne-eqb}
 use Rattle.lists.proofs.Tests.{split}
 use Rattle.writing.specs.Told.{Told, tells, refused, onward}
-use Rattle.numbers.specs.Numbers.{encoded, Bytes}
 use Rattle.writing.proofs.Told.{onward-same, onward-assoc}
-use Rattle.numbers.proofs.Reading.{encode-decode}
 use Rattle.records.specs.declared.Record.{Record}
 use Rattle.records.specs.declared.Record.the-variants.{Vacant, Occupied}
 use Rattle.summaries.specs.declared.Summary.{Summary}
-use Rattle.records.specs.Records.{versionOf, presenceOf, recordAt, recordsFrom, countOf, listOf, recordsOf}
+use Rattle.records.specs.Records.{versionOf, presenceOf, recordAt, recordsFrom, listOf}
 use Rattle.records.proofs.Images.{by-list, records-length}
-use Rattle.records.proofs.Records.{count-is}
-use Rattle.summaries.specs.Summaries.{wrongOf, lives, wrongs, blank, summaryOf, judgedFrom, judgedOf, notedAs, noted}
+use Rattle.summaries.specs.Summaries.{wrongOf, lives, wrongs, blank, summaryOf, judgedFrom, notedAs, noted}
 
 -- ---- one by one
 
@@ -104,15 +101,3 @@ unfolding judgedFrom
 judged-kept count s from h =
     sym (onward-assoc (listOf count s from) _ _
     ∙ onward-same (listOf count s from) _ _ (λ l e. ap (λ (k : Summary). tells (from, k)) (summed-all l (omega (arith, list-length count s from l e)))))
-
--- what is judged is said of the list of records alone: its place is the one after their number
-pub judged-records : (s : List ℕ) (most : ℕ) → Bytes s → judgedOf s most ≡ onward (recordsOf s most) (λ l. tells (length (encoded (length l)), summaryOf l))
-unfolding judgedOf judgedFrom recordsOf
-judged-records s most bytes =
-    onward-same (countOf s most) _ _ (λ c e.
-    onward-same (listOf (c .0) s (c .1)) _ _ (λ l f.
-    ap (λ (n : ℕ). tells (n, summaryOf l)) (place c e ∙ ap (λ (n : ℕ). length (encoded n)) (sym (list-length (c .0) s (c .1) l f)))))
-    ∙ sym (onward-assoc (countOf s most) _ _)
-  where
-    place : (c : ℕ × ℕ) → countOf s most ≡ tells c → c .1 ≡ length (encoded (c .0))
-    place c e = omega (arith, encode-decode 32 s 0 (c .0) (c .1) bytes (count-is s most (c .0) (c .1) e .0) .1)

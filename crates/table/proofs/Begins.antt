@@ -1,6 +1,6 @@
 -- A table that reads as a base: each number given as a key is live or detached there exactly where the base says so. Every call keeps this,
 -- with the base changed as the call's answer says; a fresh table reads as the empty base. Assumes nothing.
-use mathlib.Core.Path.{_≡_, refl, sym, ap, _∙_, subst}
+use mathlib.Core.Path.{_≡_, refl, sym, ap, _∙_}
 use mathlib.Core.Logic.{⊎-elim}
 use mathlib.Core.Bool.{Bool, true, false}
 use mathlib.Core.List.{List, [], _∷_, List·Memᴰ, List·Memᴰ·not-nil, List·Memᴰ·cases-cons}

@@ -15,7 +15,8 @@ use Rattle.keys.specs.Keys.{idx}
 use Rattle.table.specs.declared.Header.{Header}
 use Rattle.table.specs.Table.{Table, ver, link, key, val, last, lastIdx, lengthsFit, hasShape, grownHead, withValue, entered, freed, filled, left}
 use Rattle.table.specs.Calls.{Out, fresh, lookup, put, inserted, insert, remove, detach, reattach, drain}
-use Rattle.table.specs.Refused.{first, placeTests, leaveTests, slotTests, insertTests, reattachTests, drainTests, issues}
+use Rattle.lists.specs.Tests.{first}
+use Rattle.table.specs.Refused.{placeTests, leaveTests, slotTests, insertTests, reattachTests, drainTests, issues}
 use Rattle.table.specs.Frames.{SameSlot, SameUnlessMoved, SamePlace, SameLengths}
 use Rattle.table.proofs.Refused.{first-holds, ruled-either, lookup-ruled, put-ruled, insert-ruled, remove-ruled, detach-ruled, reattach-ruled, drain-ruled}
 
@@ -56,7 +57,7 @@ module _ (t : Table) (i v k x : ℕ) (head′ : Header) where
   entered-lengths = (length-set (t .versions) i v, length-set (t .links) i (t .head .n), length-set (t .keys) (t .head .n) k, length-set (t .values) (t .head .n) x)
 
 module _ (t : Table) (i l : ℕ) (head′ : Header) where
-  freed-slot : (j : ℕ) → j ≢ i → SameSlot t (freed t i l head′) j
+  pub freed-slot : (j : ℕ) → j ≢ i → SameSlot t (freed t i l head′) j
   unfolding freed
   freed-slot j ne = (getD-set-other (t .versions) i j _ 0 ne, getD-set-other (t .links) i j l 0 ne)
 

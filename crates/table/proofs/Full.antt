@@ -1,5 +1,4 @@
--- Refusal 3 on a sound table: it is given exactly where every index from 1 to C is live or detached; by the reading, where live and detached keys
--- together are C. Assumes nothing.
+-- Refusal 3 on a sound table: it is given exactly where every index from 1 to C is live or detached. Assumes nothing.
 use mathlib.Core.Path.{_≡_, refl, sym, ap}
 use mathlib.Core.Logic.{_⊎_, inl, inr, by-cases, ⊎-elim, _↔_}
 use mathlib.Core.Bool.{true}

@@ -5,6 +5,7 @@ pub mod Storing
 pub mod Refused
 pub mod Frames
 pub mod Places
+pub mod SweepFrames
 pub mod Values
 pub mod Only
 pub mod Runs

@@ -20,7 +20,8 @@ use Rattle.keys.specs.Keys.{idx, version, asRead}
 use Rattle.keys.proofs.Keys.{read-is, is-read}
 use Rattle.table.specs.Table.{Table, link, hasShape, isLive, isHeld}
 use Rattle.table.specs.Calls.{Judged, found, fails, placeIn, place}
-use Rattle.table.specs.Refused.{first, keyTests, linksOf}
+use Rattle.lists.specs.Tests.{first}
+use Rattle.table.specs.Refused.{keyTests, linksOf}
 use Rattle.table.proofs.Shape.{Shape, has-shape}
 use Rattle.table.proofs.Judged.{Live, standing}
 use Rattle.table.proofs.Judging.{place-held}

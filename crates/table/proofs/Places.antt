@@ -3,7 +3,7 @@
 use mathlib.Core.Path.{_≡_, refl, sym, ap, _∙_, subst}
 use mathlib.Core.Logic.{⊎-elim}
 use mathlib.Core.Bool.{Bool, true, false, cond, not}
-use mathlib.Core.List.{List, [], _∷_, _++_, List·Memᴰ, List·Memᴰ·cases-cons, List·Memᴰ·not-nil}
+use mathlib.Core.List.{List, [], _∷_, List·Memᴰ, List·Memᴰ·cases-cons, List·Memᴰ·not-nil}
 use mathlib.Core.Option.{Option, none, some}
 use Prim.Native.Nat.{ℕ, zero, suc, _≤_, _<_, zero-le}
 use native.Mathlib.Omega.{arith}
@@ -12,7 +12,7 @@ use lib.ListN.{length, getD}
 use borrow.Author.Tests.{leb-true, le-leb, lt-leb, not-true}
 use Rattle.lists.specs.Put.{put}
 use Rattle.lists.specs.Among.{among}
-use Rattle.lists.proofs.Tests.{split, true-false, parts}
+use Rattle.lists.proofs.Tests.{split, true-false, parts, before, first-append}
 use Rattle.lists.proofs.Put.{put-nil}
 use Rattle.lists.proofs.Among.{among-same, among-rest}
 use Rattle.lists.specs.Once.{Once}
@@ -22,7 +22,8 @@ use Rattle.keys.proofs.Keys.{is-read}
 use Rattle.table.specs.Table.{Table, link, key, val, hasShape, isLive, isHeld}
 use Rattle.table.specs.Calls.{said-value, said-done, refused, found, placeIn, place, lookup}
 use Rattle.table.specs.Sweeps.{Places, places, bars, placed, placesOf, given, disjoint}
-use Rattle.table.specs.Refused.{Tests, first, ruled, keyTests, disjointTests, linksOf}
+use Rattle.lists.specs.Tests.{first}
+use Rattle.table.specs.Refused.{ruled, keyTests, disjointTests, linksOf}
 use Rattle.table.proofs.Refused.{ruled-keeps}
 
 -- ---- the places of the keys, in list order
@@ -48,14 +49,6 @@ places-seated t earlier (k ∷ ks) =
     (λ b. rw b)))
 
 -- ---- the whole call
-
-abbrev before : Option ℕ → Option ℕ → Option ℕ
-before none g = g
-before (some r) g = some r
-
-first-append : (l m : Tests) → first (l ++ m) ≡ before (first l) (first m)
-first-append [] m = refl
-first-append (e ∷ l) m = split (e .0) (λ b. rw b (first-append l m)) (λ b. rw b)
 
 given-ruled : (f : Option ℕ) (ps ks out : List ℕ)
     → given (seated f ps) ks out ≡ ruled out (before f (first ((leb (length ks) (length out), 6) ∷ []))) (said-done, put out 0 ps)

@@ -250,20 +250,6 @@ pub length-keys : (l : List (ℕ × ℕ)) → length (keysOf l) ≡ length l
 length-keys [] = refl
 length-keys (e ∷ l) = ap suc (length-keys l)
 
-without-none : (j : ℕ) (l : List (ℕ × ℕ)) → (List·Memᴰ j (keysOf l) → ⊥) → without j l ≡ l
-unfolding without
-without-none j [] h = refl
-without-none j (e ∷ l) h = rw (ne-eqb j (e .0) (λ q. h (List·Memᴰ·head q))) (ap (λ (z : List (ℕ × ℕ)). e ∷ z) (without-none j l (λ m. h (List·Memᴰ·tail m))))
-
--- one entry fewer without a key that lives
-pub live-without-length : (j x : ℕ) (l : List (ℕ × ℕ)) → Once (keysOf l) → valueIn l j ≡ some x → suc (length (without j l)) ≡ length l
-unfolding without valueIn
-live-without-length j x [] o v = let z : _≡_ {A = ℕ} 0 1 = cc in absurd (omega arith)
-live-without-length j x (e ∷ l) o v =
-    by-cases (ℕ-discrete j (e .0))
-    (λ q. rw (eq-eqb j (e .0) q) (ap (λ (z : List (ℕ × ℕ)). suc (length z)) (without-none j l (λ m. once-head (e .0) (keysOf l) o (Memᴰ·cast (sym q) m)))))
-    (λ ne. rw (ne-eqb j (e .0) ne) (ap suc (live-without-length j x l (once-tail (e .0) (keysOf l) o) (sym (value-other e l j ne) ∙ v))))
-
 -- ---- what a sieve drops at an index
 
 -- how many elements of index i a rule drops, where g is the value of the one key there that can live

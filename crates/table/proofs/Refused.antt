@@ -17,7 +17,8 @@ use Rattle.table.specs.Calls.{Said, said-key, said-value, said-pair, sai
 use Rattle.table.specs.Sound.{isSound}
 use Rattle.table.specs.Sweeps.{asked, retaining, retain, clearing, clear}
 use Rattle.table.specs.Steps.{Call, c-lookup, c-put, c-insert, c-remove, c-detach, c-reattach, c-drain, c-retain, c-clear, step}
-use Rattle.table.specs.Refused.{Tests, first, numbers, ruled, judged, placeTests, leaveTests, insertTests, reattachTests, drainTests, sweepTests, issues, drains}
+use Rattle.lists.specs.Tests.{Tests, first}
+use Rattle.table.specs.Refused.{numbers, ruled, judged, placeTests, leaveTests, insertTests, reattachTests, drainTests, sweepTests, issues, drains}
 
 -- ---- tests in order, each with the number of its refusal
 

@@ -1,7 +1,7 @@
 -- Theorem D: insert answers a key again only after 2,147,483,648 removals at its index. The clock of the index is the removals and inserts there, modulo
 -- 2 ^ 32; removals come at odd and inserts at even clocks, so half the way that the clock has gone is the number of removals. Assumes nothing.
 use mathlib.Core.Path.{_≡_, refl, sym, ap, ap₂, _∙_}
-use mathlib.Core.Logic.{_⊎_, inl, by-cases, ⊎-elim}
+use mathlib.Core.Logic.{inl, by-cases, ⊎-elim}
 use mathlib.Core.List.{List, [], _∷_, _++_}
 use mathlib.Core.Option.{some}
 use Prim.Native.Nat.{ℕ, _+_, _/_, _%_, _≤_, _<_}
@@ -9,11 +9,11 @@ use native.Mathlib.Nat.{add-assoc, zero-add}
 use native.Mathlib.Omega.{arith}
 use native.Mathlib.Decide.{ℕ-discrete, decLt}
 use borrow.Author.Tests.{eq-eqb}
-use Rattle.keys.specs.Keys.{W, far, idx, pack, version, asRead, down}
+use Rattle.keys.specs.Keys.{W, far, idx, version, asRead, down}
 use Rattle.keys.proofs.Keys.{idx-pack, version-pack, version-odd, version-word}
 use Rattle.keys.proofs.Versions.{down-up}
 use Rattle.table.specs.Table.{Table, ver, link}
-use Rattle.table.specs.Calls.{Said, said-key, refused, Out, insert}
+use Rattle.table.specs.Calls.{Said, said-key, insert}
 use Rattle.table.specs.Sound.{Sound}
 use Rattle.table.specs.Steps.{Call, c-insert, step, after, history}
 use Rattle.table.specs.Reading.{change, Reading, changed, reading, valueIn, removedAt, removals, Known, round}

@@ -18,10 +18,6 @@ pub lengths : (vs ls ks xs : List ℕ) → lengthsFit vs ls ks xs ≡ true → L
 unfolding lengthsFit
 lengths vs ls ks xs e = search parts
 
-pub lengths-fit : (vs ls ks xs : List ℕ) → Lengths vs ls ks xs → lengthsFit vs ls ks xs ≡ true
-unfolding lengthsFit
-lengths-fit vs ls ks xs h = search (tests, arith)
-
 pub record Shape (t : Table) : Type 0 where
   pub small : cap t ≤ limit
   pub vlen : length (t .versions) ≡ cap t + 1

@@ -13,7 +13,8 @@ use Rattle.keys.specs.Keys.{idx, version, asRead, up}
 use Rattle.table.specs.declared.Header.{Header}
 use Rattle.table.specs.Table.{Table, ver, link, key, val, cap, lengthsFit, hasShape, isLive, dead, isHeld, last, withValue, freed, left}
 use Rattle.table.specs.Calls.{Said, said-value, refused, Out, lookup, put, remove, detach}
-use Rattle.table.specs.Refused.{first, ruled, placeTests, leaveTests}
+use Rattle.lists.specs.Tests.{first}
+use Rattle.table.specs.Refused.{ruled, placeTests, leaveTests}
 use Rattle.table.proofs.Refused.{ruled-either, lookup-ruled, put-ruled, remove-ruled, detach-ruled}
 use Rattle.table.proofs.Frames.{value-off, left-either, filled-version}
 use Rattle.table.proofs.Places.{first-none, held}

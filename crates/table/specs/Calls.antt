@@ -2,7 +2,7 @@
 -- each is a function from a table to an answer and the table after it. Assumes nothing.
 use mathlib.Core.Bool.{Bool, cond}
 use mathlib.Core.List.{List, []}
-use Prim.Native.Nat.{ℕ, _+_}
+use Prim.Native.Nat.{ℕ}
 use lib.Dec.{leb, ltb, eqb}
 use lib.ListN.{set, take}
 use Rattle.keys.specs.Keys.{far, idx, pack, version, asRead, odd, down}

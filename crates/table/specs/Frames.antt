@@ -2,8 +2,9 @@
 -- one place; insert and reattach write header, one slot and place n; a drain step writes header and one slot". Assumes nothing.
 use mathlib.Core.Path.{_≡_}
 use mathlib.Core.Logic.{_≢_}
-use Prim.Native.Nat.{ℕ}
+use Prim.Native.Nat.{ℕ, _<_}
 use lib.ListN.{length}
+use Rattle.keys.specs.Keys.{idx}
 use Rattle.table.specs.Table.{Table, ver, link, key, val, lastIdx}
 
 abbrev pub SameSlot : Table → Table → ℕ → Type 0
@@ -22,3 +23,7 @@ SameLengths t u =
     × (length (u .links) ≡ length (t .links))
     × (length (u .keys) ≡ length (t .keys))
     × (length (u .values) ≡ length (t .values))
+
+-- no place holds a key of the index i: a sweep frees the slots of listed keys, and no other
+abbrev pub Unlisted : Table → ℕ → Type 0
+Unlisted t i = (p : ℕ) → p < t .head .n → idx (key t p) ≢ i

@@ -1,27 +1,20 @@
 -- The refusals in their order (the rules, section "Refusal numbers and their order"): the tests of each call, and what they decide. Assumes nothing.
 use mathlib.Core.Path.{_≡_}
 use mathlib.Core.Logic.{_⊎_}
-use mathlib.Core.Bool.{Bool, true, cond, not}
+use mathlib.Core.Bool.{true, cond, not}
 use mathlib.Core.List.{List, [], _∷_, _++_}
 use mathlib.Core.Option.{Option, none, some}
 use Prim.Native.Nat.{ℕ}
 use lib.Dec.{leb, ltb, eqb}
 use lib.ListN.{length}
 use Rattle.lists.specs.Among.{among}
+use Rattle.lists.specs.Tests.{Tests}
 use Rattle.keys.specs.Keys.{idx, pack, version, asRead, odd}
 use Rattle.table.specs.Table.{Table, ver, link, key, val, cap, hasShape, isLive, dead, isDetached, isHeld, last, lastIdx, lastInRange, lastIsHeld, hasPlace, headIsFree, freedHead, freed}
 use Rattle.table.specs.Calls.{Said, said-pair, said-done, refused, Out, Judged, found, fails}
 use Rattle.table.specs.Sound.{isSound}
 
--- ---- tests in order, each with the number of its refusal
-
-abbrev pub Tests : Type 0
-Tests = List (Bool × ℕ)
-
--- the number of the first test that fails
-abbrev pub first : Tests → Option ℕ
-first [] = none
-first (e ∷ l) = cond (e .0) (first l) (some (e .1))
+-- ---- what tests in order decide
 
 -- the numbers that may be given
 abbrev pub numbers : Tests → List ℕ

@@ -10,6 +10,7 @@ use lib.ListN.{length, set, length-append}
 use lib.Arith.{lt-one, le-zero}
 use Rattle.lists.specs.Put.{put}
 use Rattle.lists.proofs.Put.{put-nil, put-snoc}
+use Rattle.keys.specs.Keys.{W}
 use Rattle.text.specs.Text.{lastDigits, digits, decimal}
 
 -- ---- digits, a step at a time
@@ -65,6 +66,9 @@ short-step k ih (suc n) h =
 pub digits-short : (k n : ℕ) → n < 10 ^ k → length (digits n) ≤ k
 digits-short zero n h = rw (lt-one h, digits-zero) zero-le
 digits-short (suc k) n h = short-step k (digits-short k) n h
+
+pub length-decimal-32 : (n : ℕ) → n < W → length (decimal n) ≤ 10
+length-decimal-32 n h = omega (arith, length-decimal n, digits-short 9 (n / 10) (omega arith))
 
 pub length-decimal-64 : (n : ℕ) → n < 2 ^ 64 → length (decimal n) ≤ 20
 length-decimal-64 n h = omega (arith, length-decimal n, digits-short 19 (n / 10) (omega arith))

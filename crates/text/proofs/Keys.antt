@@ -41,7 +41,7 @@ module _ (k : KeyData) (plain : isNull k ≡ false) where
 
 -- ---- which key a text is of
 
-stops-at-letter : (n : ℕ) (t : List ℕ) → valueFrom n (118 ∷ t) ≡ n
+pub stops-at-letter : (n : ℕ) (t : List ℕ) → valueFrom n (118 ∷ t) ≡ n
 unfolding digitOf
 stops-at-letter n t = refl
 

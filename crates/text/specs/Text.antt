@@ -1,4 +1,4 @@
--- Numbers and keys as text, in ASCII. Assumes nothing.
+-- Numbers, keys and the words of answers as text, in ASCII. Assumes nothing.
 use Prim.Native.Nat.{ℕ, zero, suc, _+_, _-_, _*_, _/_, _%_}
 use mathlib.Core.Bool.{cond, _&&_}
 use mathlib.Core.List.{List, [], _∷_, _++_}
@@ -44,3 +44,13 @@ nullText = 110 ∷ 117 ∷ 108 ∷ 108 ∷ []
 -- "Any key with that index is null and prints `null`; others print index, `v`, version."
 unfoldable pub keyText : KeyData → List ℕ
 keyText k = cond (isNull k) nullText (decimal (k .idx) ++ (118 ∷ decimal (k .version)))
+
+-- ---- the words of answers, letter by letter
+
+-- `ok`
+abbrev pub okText : List ℕ
+okText = 111 ∷ 107 ∷ []
+
+-- `refused `, with its space
+abbrev pub refusedText : List ℕ
+refusedText = 114 ∷ 101 ∷ 102 ∷ 117 ∷ 115 ∷ 101 ∷ 100 ∷ 32 ∷ []

@@ -12,7 +12,7 @@ use refusal::Refusal;
 pub enum Written {
     // The place after what was written.
     End(usize),
-    // The buffer is too short, and nothing was written: refusal 6.
+    // Nothing was written: 6 where the buffer is too short, or the refusal of what was to be written.
     Refused(Refusal),
 }
 

@@ -1,7 +1,6 @@
 -- `dense_drain::last_slot` meets its contract: the index first, then version and link. Assumes nothing.
 use borrow.Author.Needs.{needs}
-use mathlib.Core.Path.{_∙_, sym, ap}
-use Rattle.keys.specs.declared.KeyData.{KeyData}
+use mathlib.Core.Path.{_∙_, sym}
 use Rattle.table.proofs.Judging.{held-low, held-high, held-version, held-link, held-yes}
 use Rattle.dense_drain.proofs.last_slot.Statement.{statement}
 use Rattle.dense_drain.proofs.last_slot.Tie as tie

@@ -2,7 +2,6 @@
 use borrow.Author.Needs.{needs}
 use native.Mathlib.Omega.{arith}
 use mathlib.Core.Path.{ap}
-use lib.ListN.{length-set}
 use Rattle.keys.specs.declared.KeyData.{KeyData}
 use Rattle.table.proofs.Storing.{left-last, left-moved}
 use Rattle.dense_leave.proofs.remove_from_slot.Statement.{statement}

@@ -1,3 +1,4 @@
+-- `each_line` goes on to a later line with each turn. Assumes nothing.
 use borrow.Author.Needs.{needs}
 use Prim.Native.Nat.{_≤_, _-_}
 use lib.ListN.{length}

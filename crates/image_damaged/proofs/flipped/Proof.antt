@@ -1,3 +1,4 @@
+-- `flipped` ends: its place goes up to the image's length, which stays. Assumes nothing.
 use borrow.Author.Needs.{needs}
 use Prim.Native.Nat.{_≤_, _-_}
 use lib.ListN.{length}

@@ -1,3 +1,4 @@
+-- `flips` ends: each turn is one of eight, and the image's length stays. Assumes nothing.
 use borrow.Author.Needs.{needs}
 use lib.ListN.{length}
 use mathlib.Core.Path.{_≡_}

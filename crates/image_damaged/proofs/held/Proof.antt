@@ -1,3 +1,4 @@
+-- `held` ends: its place goes up to the list's length. Assumes nothing.
 use borrow.Author.Needs.{needs}
 use Prim.Native.Nat.{_≤_, _-_}
 use lib.ListN.{length}

@@ -6,7 +6,7 @@ use mathlib.Core.Logic.{_≢_}
 use mathlib.Core.List.{List}
 use Prim.Native.Nat.{ℕ}
 use borrow.Author.Tests.{eq-eqb, ne-eqb}
-use Rattle.writing.specs.Told.{Told, tells, refused, onward}
+use Rattle.writing.specs.Told.{tells, refused}
 use Rattle.summaries.specs.declared.Summary.{Summary}
 use Rattle.summaries.specs.Summaries.{judgementOf, judgedOf}
 use Rattle.image.specs.Rebuild.{firstWrong, fittingSummary, judgedAt}

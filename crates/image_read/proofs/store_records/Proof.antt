@@ -1,11 +1,10 @@
 -- `store_records` meets its contract. The loop's invariant: the slots of the header have been stored, and the records of the others stand
 -- from `at` on. So no record is refused. Assumes nothing.
 use borrow.Author.Needs.{needs}
-use mathlib.Core.Path.{_≡_, sym, ap, _∙_}
-use Prim.Native.Nat.{ℕ, _-_, _<_}
+use mathlib.Core.Path.{sym, ap, _∙_}
+use Prim.Native.Nat.{_-_}
 use native.Mathlib.Omega.{arith}
-use Rattle.writing.specs.Told.{tells, refused}
-use Rattle.records.specs.Records.{recordOf, recordAt}
+use Rattle.records.specs.Records.{recordOf}
 use Rattle.table.specs.Table.{Table}
 use Rattle.dense.specs.Lent.{table}
 use Rattle.image.proofs.Storing.{stored-slots}

@@ -1,18 +1,13 @@
 -- `put_image` meets its contract. The loop's invariant: the slot count and the records of the slots below i stand at the buffer's front.
 -- Assumes nothing.
 use borrow.Author.Needs.{needs}
-use mathlib.Core.Path.{_≡_, sym, ap, ap₂, _∙_}
 use mathlib.Core.List.{List}
-use Prim.Native.Nat.{ℕ, _+_, _-_, _≤_}
+use Prim.Native.Nat.{ℕ, _-_, _≤_}
 use native.Mathlib.Omega.{arith}
 use lib.ListN.{length}
-use Rattle.lists.specs.Put.{put}
-use Rattle.lists.proofs.Put.{length-put}
-use Rattle.records.specs.declared.Record.{Record}
-use Rattle.records.specs.Records.{recordBytes}
 use Rattle.dense.specs.Lent.{table}
-use Rattle.image.specs.Image.{slotOf, imageBytes}
-use Rattle.image.proofs.Writing.{soFar, so-far-all, Front, front-count, front-more, front-all, front-length}
+use Rattle.image.specs.Image.{imageBytes}
+use Rattle.image.proofs.Writing.{Front, front-count, front-more, front-all, front-length}
 use Rattle.image_write.proofs.put_image.Statement.{statement}
 use Rattle.image_write.proofs.put_image.Tie as tie
 

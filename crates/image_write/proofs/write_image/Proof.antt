@@ -8,7 +8,7 @@ use native.Mathlib.Omega.{arith}
 use lib.ListN.{length}
 use Rattle.lists.specs.Put.{put}
 use Rattle.lists.proofs.Put.{length-put}
-use Rattle.writing.specs.Told.{Told, tells, refused}
+use Rattle.writing.specs.Told.{tells, refused}
 use Rattle.writing.proofs.Writing.{written-fits, written-short}
 use Rattle.table.specs.Table.{Table}
 use Rattle.image.specs.Image.{imageBytes, imageLen, writeImage}

@@ -1,7 +1,6 @@
 -- `with_digit` tests that the longer number fits before it makes it. Assumes nothing.
 use borrow.Author.Needs.{needs}
 use borrow.Author.Tests.{le-leb, lt-leb}
-use native.Mathlib.Omega.{arith}
 use Rattle.replay.proofs.with_digit.Statement.{statement}
 use Rattle.replay.proofs.with_digit.Tie as tie
 

@@ -1,7 +1,6 @@
 -- `nibble` tells digits from letters as the definition does. Assumes nothing.
 use borrow.Author.Needs.{needs}
 use borrow.Author.Tests.{lt-ltb, le-ltb}
-use native.Mathlib.Omega.{arith}
 use Rattle.replay_input.specs.Input.{nibbleOf}
 use Rattle.replay_input.proofs.nibble.Statement.{statement}
 use Rattle.replay_input.proofs.nibble.Tie as tie

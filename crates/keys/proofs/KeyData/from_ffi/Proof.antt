@@ -1,5 +1,4 @@
 -- `KeyData::from_ffi` reads a number by shift and mask, with the version's lowest bit set. Assumes nothing.
-use mathlib.Core.Path.{sym}
 use native.Mathlib.Omega.{arith}
 use Rattle.keys.proofs.Bits.{low32, set-lowest}
 use Rattle.keys.proofs.Keys.{version-64}

@@ -1,7 +1,6 @@
 -- `Line::take` goes by the definition's cases. Assumes nothing.
 use borrow.Author.Needs.{needs}
 use borrow.Author.Tests.{eq-eqb, ne-eqb}
-use native.Mathlib.Omega.{arith}
 use Rattle.replay.specs.Lines.{taken}
 use Rattle.replay.proofs.Line.take.Statement.{statement}
 use Rattle.replay.proofs.Line.take.Tie as tie
