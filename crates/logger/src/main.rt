@@ -1,6 +1,6 @@
-// A first example: the logger of one day. It opens a spell when the water under a contactor runs acid, reads it, writes a newer reading into it,
-// closes another one, shows that a closed spell's key opens nothing, and takes the day's image to a second table, where the open spell still answers
-// to its key. A value is a contactor's number and a reading: contactor times 1,000 plus the pH times 100.
+// A first example: the logger of one day. It opens a spell when the water under a contactor runs acid, reads it and closes it, and shows that a closed
+// spell's key opens nothing. Another spell gets a newer reading and stays open; the day's image goes to a second table, where it still answers to its
+// key. A value is a contactor's number and a reading: contactor times 1,000 plus the pH times 100.
 use answers::Answer;
 use dense::Found;
 use dense::Issued;
@@ -44,7 +44,8 @@ fn main() {
     found(lookup(g, &versions, &links, &keys, &values, third_key));
     found(put(g, &versions, &links, &keys, &mut values, third_key, 3598));
 
-    // 5 recovers: its spell is closed, and its key opens nothing any more
+    // 5 recovers: its spell is read and closed, and its key opens nothing any more
+    found(lookup(g, &versions, &links, &keys, &values, fifth_key));
     let closed = remove(
         g,
         &mut versions,
