@@ -1,151 +1,56 @@
-// Situations of the dense table that are easy to get wrong, each run through the real arrays: the smallest and the largest table, lengths that do not fit, and
-// headers of any numbers. The remarks of standard input say what the rules give, one before each situation; the lines after a remark are what the calls
-// answer.
-use answers::Answer;
-use answers::NUMBER;
-use dense::LIMIT;
-use dense::fresh;
-use dense_look::len;
-use keys::KeyData;
+// Situations of the dense table that are easy to get wrong, most on tables that are not sound, each run through the real arrays. A line of standard input is
+// a remark that says what the rules give, a line that bends the table, or a call; a remark is written as it stands, a call's answer after it. The letters are
+// those of the lists that the comparison replays, with `b` for fresh on what is lent and `q` for the check.
+mod calls;
+
 use libc::STDIN_FILENO;
 use libc::STDOUT_FILENO;
-use lines::first;
-use lines::line_at;
-use lines::line_end;
-use made::Made;
-use made::insert;
+use replay::least;
+use replay_bend::Lent;
 use table::Header;
 
-// The number of a key as it may stand in an array: the version's lowest bit is as given.
-fn key(index: u32, version: u32) -> u64 {
-    let data = KeyData {
-        idx: index,
-        version,
-    };
-    data.as_ffi()
+// Room for each array of a table.
+const ROOM: usize = 4100;
+
+// Writes a line that is a remark.
+fn remark(input: &[u8], at: usize, op: u8) {
+    if op == b'#' {
+        io::write_all(STDOUT_FILENO, lines::line_at(input, at));
+    }
+}
+
+// The lines of the input, one after the other: each bends the whole arrays, or is a call on the parts that are lent.
+fn run(input: &[u8]) {
+    let mut versions = [9u32; ROOM];
+    let mut links = [9u32; ROOM];
+    let mut keys = [9u64; ROOM];
+    let mut values = [9u64; ROOM];
+    let mut h = Header { n: 0, s: 0, f: 0 };
+    let mut lent = Lent::none();
+    let mut at = 0;
+    while at < input.len() {
+        let line = replay_input::line_at(input, at);
+        remark(input, at, line.op);
+        lent = replay_bend::lend(lent, line);
+        replay_bend::cells(&mut versions, &mut links, &mut keys, &mut values, line);
+        let a = least(lent.versions, ROOM);
+        let b = least(lent.links, ROOM);
+        let k = least(lent.keys, ROOM);
+        let v = least(lent.values, ROOM);
+        h = calls::call(
+            replay_bend::header(h, line),
+            &mut versions[..a],
+            &mut links[..b],
+            &mut keys[..k],
+            &mut values[..v],
+            line,
+        );
+        at = lines::line_end(input, at);
+    }
 }
 
 fn main() {
-    let mut buffer = io::buffer();
+    let mut buffer = io::large_buffer();
     let n = io::read_full(STDIN_FILENO, &mut buffer);
-    situations(&buffer[..n]);
-}
-
-// Each situation, with its remark before it.
-fn situations(text: &[u8]) {
-    let mut at = 0;
-    let mut k: u32 = 0;
-    while k < 5 {
-        at = remark(text, at);
-        situation(k);
-        k += 1;
-    }
-}
-
-fn situation(k: u32) {
-    match k {
-        0 => no_room(),
-        1 => largest(),
-        2 => too_large(),
-        3 => unequal(),
-        _ => any_header(),
-    }
-}
-
-// ---- the smallest and the largest table, and lengths that do not fit
-
-fn no_room() {
-    let mut versions = [9u32];
-    let mut links = [9u32];
-    let mut keys = [0u64; 0];
-    let mut values = [0u64; 0];
-    tell(answers::started(fresh(&mut versions, &mut links, &keys, &values)));
-    let h = Header { n: 0, s: 1, f: 1 };
-    let g = told(insert(h, &mut versions, &mut links, &mut keys, &mut values, 7));
-    show(g, &versions, &links, &keys, &values);
-}
-
-fn largest() {
-    let mut versions = [9u32; LIMIT + 1];
-    let mut links = [9u32; LIMIT + 1];
-    let mut keys = [0u64; LIMIT];
-    let mut values = [0u64; LIMIT];
-    tell(answers::started(fresh(&mut versions, &mut links, &keys, &values)));
-    shown(versions[0]);
-    shown(versions[1]);
-    let h = Header { n: 0, s: 1, f: 1 };
-    let g = told(insert(h, &mut versions, &mut links, &mut keys, &mut values, 7));
-    tell(Answer::header(g));
-}
-
-fn too_large() {
-    let mut versions = [9u32; LIMIT + 2];
-    let mut links = [9u32; LIMIT + 2];
-    let mut keys = [0u64; LIMIT + 1];
-    let mut values = [0u64; LIMIT + 1];
-    tell(answers::started(fresh(&mut versions, &mut links, &keys, &values)));
-    let h = Header { n: 0, s: 1, f: 1 };
-    told(insert(h, &mut versions, &mut links, &mut keys, &mut values, 7));
-    shown(versions[0]);
-}
-
-fn unequal() {
-    let mut versions = [0u32, 0, 0];
-    let mut links = [0u32, 0];
-    let keys = [0u64, 0];
-    let values = [0u64, 0];
-    tell(answers::started(fresh(&mut versions, &mut links, &keys, &values)));
-    let more = [0u64, 0, 0];
-    let mut right = [0u32, 0, 0];
-    tell(answers::started(fresh(&mut versions, &mut right, &keys, &more)));
-}
-
-fn any_header() {
-    counted(0, 0, 1);
-    counted(0, 4, 1);
-    counted(2, 2, 1);
-    counted(0, 2, 0);
-    counted(0, 2, 3);
-    counted(4294967295, 4294967295, 4294967295);
-    counted(1, 2, 2);
-}
-
-fn counted(n: u32, s: u32, f: u32) {
-    let versions = [0u32, 1, 0];
-    let links = [0u32, 0, 0];
-    let keys = [key(1, 1), 0];
-    let values = [7u64, 0];
-    tell(answers::counted(len(Header { n, s, f }, &versions, &links, &keys, &values)));
-}
-
-fn shown(value: u32) {
-    tell(Answer::of(NUMBER, value as u64));
-}
-
-// ---- what the program prints
-
-// Says the line of a text that begins at a place, and hands back where the next one begins.
-fn remark(text: &[u8], at: usize) -> usize {
-    io::write_all(STDOUT_FILENO, line_at(text, at));
-    line_end(text, at)
-}
-
-fn tell(answer: Answer) {
-    let mut text = [0u8; 80];
-    let end = answer_lines::line(answer, 0, &mut text);
-    io::write_all(STDOUT_FILENO, first(&text, end));
-}
-
-// Tells what a call answered, and hands back the header.
-fn told(made: Made) -> Header {
-    let answer = made.answer;
-    tell(answer);
-    made.header
-}
-
-// A whole table: its header and its four arrays, past n and s too.
-fn show(h: Header, versions: &[u32], links: &[u32], keys: &[u64], values: &[u64]) {
-    let mut text = [0u8; 512];
-    let end = state_lines::state(h, versions, links, keys, values, 0, &mut text);
-    io::write_all(STDOUT_FILENO, first(&text, end));
+    run(&buffer[..n]);
 }

@@ -1,14 +1,14 @@
 -- `situations` ends: k counts the situations. Assumes nothing.
 use Prim.Native.Nat.{_≤_, _-_}
 use borrow.Author.Needs.{needs}
-use Rattle.dense_cases_enter.proofs.situations.Statement.{statement}
-use Rattle.dense_cases_enter.proofs.situations.Tie as tie
+use Rattle.dense_cases_disjoint.proofs.situations.Statement.{statement}
+use Rattle.dense_cases_disjoint.proofs.situations.Tie as tie
 
 abbrev Inv-loop : tie.InvT-loop
-Inv-loop text at₀ k₀ at k = k ≤ 9
+Inv-loop text at₀ k₀ at k = k ≤ 3
 
 abbrev μ-loop : tie.MeasureT-loop
-μ-loop text at₀ k₀ at k = 9 - k
+μ-loop text at₀ k₀ at k = 3 - k
 
 pub situations-spec : {M : Type 1} → statement M
 situations-spec =
