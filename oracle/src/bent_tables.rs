@@ -1,4 +1,4 @@
-//! Rounds on bent tables, for the lists of calls, sweeps and images.
+//! Rounds on bent tables, for the lists of calls, sweeps and images, read and written.
 use crate::bent::{edge, rule, slot_key, small, twist, value, Bent, OLD_EVEN, OLD_ODD};
 use crate::dense::OUTPUT;
 use crate::dice::{damaged, odd_start, some_image};
@@ -19,12 +19,17 @@ const DENSE: Kinds = Kinds {
 
 const SWEEP: Kinds = Kinds {
     builds: &[(b'i', 9), (b'z', 3), (b'_', 1), (b'+', 2)],
-    calls: &[(b'i', 6), (b'v', 8), (b'm', 8), (b'x', 8), (b'e', 10), (b'z', 14), (b'y', 12), (b'j', 24), (b'R', 4)],
+    calls: &[(b'i', 6), (b'v', 8), (b'm', 8), (b'x', 8), (b'e', 10), (b'z', 14), (b'y', 12), (b'j', 24)],
 };
 
-const IMAGE: Kinds = Kinds {
+const READ: Kinds = Kinds {
     builds: &[(b'i', 9), (b'r', 3), (b'd', 2), (b'+', 2)],
-    calls: &[(b'i', 6), (b'r', 6), (b'd', 6), (b'R', 24), (b'J', 12), (b'W', 14), (b'D', 6), (b'N', 10)],
+    calls: &[(b'i', 6), (b'r', 6), (b'd', 6), (b'R', 24), (b'J', 12)],
+};
+
+const WRITTEN: Kinds = Kinds {
+    builds: &[(b'i', 9), (b'r', 3), (b'd', 2), (b'+', 2)],
+    calls: &[(b'i', 6), (b'r', 6), (b'd', 6), (b'W', 14), (b'D', 8), (b'N', 10)],
 };
 
 impl Bent<PlainTable> {
@@ -172,6 +177,8 @@ impl Bent<PlainTable> {
             b'R' | b'J' => format!("{letter}{}", hex(&self.image())),
             b'W' | b'D' => {
                 let room = self.reading.t.image_len().unwrap_or(1) + self.roll(4);
+                // a large image is told by its digest
+                let letter = if room > 400 { 'D' } else { letter };
                 format!("{letter}{}", room.saturating_sub(1))
             }
             b'j' => {
@@ -293,5 +300,9 @@ pub fn sweep(first: &str) -> String {
 }
 
 pub fn images(first: &str) -> String {
-    tables(14, 0, &IMAGE, first, 3_000)
+    tables(14, 0, &READ, first, 2_000)
+}
+
+pub fn written(first: &str) -> String {
+    tables(15, 0, &WRITTEN, first, 2_000)
 }

@@ -5,9 +5,6 @@ use crate::image;
 use crate::lines::{hex, named, Answer, Line};
 use crate::secondary::Secondary;
 
-/// The odds of a rebuild in a list that has none.
-const NEVER: u64 = u64::MAX;
-
 /// The keys that a list's calls may name, beside the live ones.
 struct Known {
     old: Vec<u64>,
@@ -26,6 +23,22 @@ impl Known {
             3 => bent(dice, away, t.c as u64),
             _ if want_away => away,
             _ => live,
+        }
+    }
+
+    /// Learns from what a call on a key answered, on a table of C.
+    fn learn(&mut self, op: u8, key: u64, answer: Answer, c: usize) {
+        let read = key | 1 << 32;
+        match (op, answer) {
+            (b'i', Answer::Key(k)) => {
+                self.old.push(k);
+                if self.old.len() > c + 4 {
+                    self.old.remove(0);
+                }
+            }
+            (b'd', Answer::Number(_)) => self.away.push(read),
+            (b'a', Answer::Done) => self.away.retain(|x| *x != read),
+            _ => {}
         }
     }
 }
@@ -59,8 +72,8 @@ const SWEEP: Moods = [
     &[(b'i', 30), (b'z', 5), (b'y', 5), (b'j', 12), (b'v', 6), (b'm', 4), (b'x', 4), (b'e', 3)],
 ];
 
-/// Calls on a table of C, by the crate's own answers. Whole states are asked every 40 calls, and after each sweep, drain step and rebuild.
-fn dense_part(dice: &mut Dice, list: &mut List, t: &mut Dense, moods: &Moods, c: usize, calls: usize, rebuilds: u64) {
+/// Calls on a table of C, by the crate's own answers. Whole states are asked every 40 calls, and after each sweep and drain step.
+fn dense_part(dice: &mut Dice, list: &mut List, t: &mut Dense, moods: &Moods, c: usize, calls: usize) {
     let say = |list: &mut List, t: &mut Dense, line: &str| -> Answer {
         list.add(line);
         t.call(&Line::parse(line))
@@ -76,13 +89,6 @@ fn dense_part(dice: &mut Dice, list: &mut List, t: &mut Dense, moods: &Moods, c:
         if list.since >= 40 {
             say(list, t, "s");
             list.since = 0;
-        }
-        if dice.roll(rebuilds) == 0 {
-            let bytes = some_image(dice, c as u64, 4);
-            say(list, t, &format!("R{}", hex(&bytes)));
-            say(list, t, "s");
-            known.away.clear();
-            continue;
         }
         let mut op = dice.kind(mood);
         // a large table is swept seldom, and a clear is for small ones
@@ -106,19 +112,7 @@ fn dense_part(dice: &mut Dice, list: &mut List, t: &mut Dense, moods: &Moods, c:
             }
         }
         let answer = say(list, t, &line);
-        let (idx, version) = (k & 0xffff_ffff, k >> 32 | 1);
-        let read = version << 32 | idx;
-        match (op, answer) {
-            (b'i', Answer::Key(k)) => {
-                known.old.push(k);
-                if known.old.len() > c + 4 {
-                    known.old.remove(0);
-                }
-            }
-            (b'd', Answer::Number(_)) => known.away.push(read),
-            (b'a', Answer::Done) => known.away.retain(|x| *x != read),
-            _ => {}
-        }
+        known.learn(op, k, answer, c);
         if op == b'y' || is_watched(op) {
             say(list, t, "s");
         }
@@ -151,15 +145,15 @@ pub fn dense() -> String {
     let mut list = List::new();
     let mut t = Dense::new(0);
     for _ in 0..700 {
-        dense_part(&mut dice, &mut list, &mut t, &DENSE, 0, 2, NEVER);
-        dense_part(&mut dice, &mut list, &mut t, &DENSE, 1, 20, NEVER);
-        dense_part(&mut dice, &mut list, &mut t, &DENSE, 2, 20, NEVER);
+        dense_part(&mut dice, &mut list, &mut t, &DENSE, 0, 2);
+        dense_part(&mut dice, &mut list, &mut t, &DENSE, 1, 20);
+        dense_part(&mut dice, &mut list, &mut t, &DENSE, 2, 20);
     }
     for _ in 0..9 {
-        dense_part(&mut dice, &mut list, &mut t, &DENSE, 20, 5_000, NEVER);
+        dense_part(&mut dice, &mut list, &mut t, &DENSE, 20, 5_000);
     }
-    dense_part(&mut dice, &mut list, &mut t, &DENSE, 1_000, 11_000, NEVER);
-    dense_part(&mut dice, &mut list, &mut t, &DENSE, 4_096, 11_000, NEVER);
+    dense_part(&mut dice, &mut list, &mut t, &DENSE, 1_000, 11_000);
+    dense_part(&mut dice, &mut list, &mut t, &DENSE, 4_096, 11_000);
     sequences(&mut list, "C0", &["i7", "r1 1", "a1 1 8"]);
     sequences(&mut list, "C1", &["i7", "r1 1", "d1 1", "a1 1 8"]);
     sequences(&mut list, "C2", &["i7", "r1 1", "r2 1", "d1 1", "a1 1 8"]);
@@ -171,15 +165,15 @@ pub fn sweep() -> String {
     let mut list = List::new();
     let mut t = Dense::new(OUTPUT);
     for _ in 0..40 {
-        dense_part(&mut dice, &mut list, &mut t, &SWEEP, 0, 2, 20);
-        dense_part(&mut dice, &mut list, &mut t, &SWEEP, 1, 100, 20);
-        dense_part(&mut dice, &mut list, &mut t, &SWEEP, 2, 150, 25);
+        dense_part(&mut dice, &mut list, &mut t, &SWEEP, 0, 2);
+        dense_part(&mut dice, &mut list, &mut t, &SWEEP, 1, 100);
+        dense_part(&mut dice, &mut list, &mut t, &SWEEP, 2, 150);
     }
     for _ in 0..4 {
-        dense_part(&mut dice, &mut list, &mut t, &SWEEP, 20, 5_000, 100);
+        dense_part(&mut dice, &mut list, &mut t, &SWEEP, 20, 5_000);
     }
-    dense_part(&mut dice, &mut list, &mut t, &SWEEP, 1_000, 6_000, 3_000);
-    dense_part(&mut dice, &mut list, &mut t, &SWEEP, 4_096, 8_000, NEVER);
+    dense_part(&mut dice, &mut list, &mut t, &SWEEP, 1_000, 6_000);
+    dense_part(&mut dice, &mut list, &mut t, &SWEEP, 4_096, 8_000);
     sequences(&mut list, "C0", &["i7", "z", "e"]);
     sequences(&mut list, "C1", &["i7", "z", "x0 0", "e"]);
     sequences(&mut list, "C2", &["i7", "z", "x2 2", "m1 0"]);
@@ -287,7 +281,15 @@ pub fn secondary() -> String {
 
 // ---- the slot image
 
-fn image_part(dice: &mut Dice, list: &mut List, t: &mut Dense, c: usize, calls: usize) {
+/// Images rebuilt and judged, `?` and `!` damaged ones, with calls on the rebuilt tables.
+const READ: &[(u8, u64)] = &[
+    (b'i', 20), (b'r', 10), (b'd', 6), (b'a', 6), (b'p', 3), (b'z', 3), (b'v', 2), (b'm', 2), (b'x', 2), (b'e', 1), (b'R', 14), (b'?', 14), (b'J', 12), (b'!', 8),
+];
+
+/// Images written, and their lengths.
+const WRITTEN: &[(u8, u64)] = &[(b'i', 20), (b'r', 12), (b'd', 8), (b'a', 4), (b'W', 14), (b'D', 14), (b'N', 10)];
+
+fn image_part(dice: &mut Dice, list: &mut List, t: &mut Dense, kinds: &[(u8, u64)], c: usize, calls: usize) {
     let say = |list: &mut List, t: &mut Dense, line: &str| -> Answer {
         list.add(line);
         t.call(&Line::parse(line))
@@ -296,15 +298,17 @@ fn image_part(dice: &mut Dice, list: &mut List, t: &mut Dense, c: usize, calls: 
     let mut known = Known { old: vec![1 << 32 | 1], away: vec![] };
     say(list, t, &format!("C{c}"));
     for _ in 0..calls {
-        let mut op = dice.kind(&[(b'i', 20), (b'r', 12), (b'd', 8), (b'R', 8), (b'?', 10), (b'J', 9), (b'!', 5), (b'W', 8), (b'D', 9), (b'N', 7)]);
-        // images of large tables come seldom
-        if large && !matches!(op, b'i' | b'r' | b'd') && dice.roll(200) > 0 {
+        let mut op = dice.kind(kinds);
+        // images and sweeps of large tables come seldom
+        if large && !matches!(op, b'i' | b'r' | b'd' | b'a' | b'p') && dice.roll(200) > 0 {
             op = b'i';
         }
-        let k = known.key(dice, t, false);
+        let k = known.key(dice, t, op == b'a');
         let line = match op {
             b'i' => format!("i{}", some_value(dice)),
+            b'p' | b'a' => format!("{}{} {}", op as char, named(k), some_value(dice)),
             b'r' | b'd' => format!("{}{}", op as char, named(k)),
+            b'v' | b'm' | b'x' => a_retain(dice, c, op),
             b'R' if dice.roll(5) == 0 => format!("R{}", hex(&odd_start(dice, c as u64))),
             b'R' => format!("R{}", hex(&some_image(dice, c as u64, 3))),
             b'?' => format!("R{}", hex(&damaged(dice, c as u64))),
@@ -314,15 +318,11 @@ fn image_part(dice: &mut Dice, list: &mut List, t: &mut Dense, c: usize, calls: 
                 let room = image::bytes(&t.m).len() as u64 + dice.roll(5) - dice.roll(2);
                 format!("{}{room}", if large { 'D' } else { op as char })
             }
-            _ => "N".into(),
+            _ => (op as char).to_string(),
         };
-        if let (b'i', Answer::Key(k)) = (op, say(list, t, &line)) {
-            known.old.push(k);
-            if known.old.len() > c + 4 {
-                known.old.remove(0);
-            }
-        }
-        if line.starts_with('R') || list.since >= 40 {
+        let answer = say(list, t, &line);
+        known.learn(op, k, answer, c);
+        if line.starts_with('R') || is_watched(op) || list.since >= 40 {
             say(list, t, "s");
             list.since = 0;
         }
@@ -330,19 +330,27 @@ fn image_part(dice: &mut Dice, list: &mut List, t: &mut Dense, c: usize, calls: 
     say(list, t, "s");
 }
 
-pub fn images() -> String {
-    let mut dice = Dice::new(4);
+fn image_list(seed: u64, kinds: &[(u8, u64)]) -> String {
+    let mut dice = Dice::new(seed);
     let mut list = List::new();
     let mut t = Dense::new(0);
-    for _ in 0..700 {
-        image_part(&mut dice, &mut list, &mut t, 0, 4);
-        image_part(&mut dice, &mut list, &mut t, 1, 12);
-        image_part(&mut dice, &mut list, &mut t, 2, 18);
+    for _ in 0..500 {
+        image_part(&mut dice, &mut list, &mut t, kinds, 0, 4);
+        image_part(&mut dice, &mut list, &mut t, kinds, 1, 12);
+        image_part(&mut dice, &mut list, &mut t, kinds, 2, 18);
     }
     for _ in 0..25 {
-        image_part(&mut dice, &mut list, &mut t, 20, 200);
+        image_part(&mut dice, &mut list, &mut t, kinds, 20, 200);
     }
-    image_part(&mut dice, &mut list, &mut t, 1_000, 2_500);
-    image_part(&mut dice, &mut list, &mut t, 4_096, 2_500);
+    image_part(&mut dice, &mut list, &mut t, kinds, 1_000, 2_500);
+    image_part(&mut dice, &mut list, &mut t, kinds, 4_096, 2_500);
     list.text
+}
+
+pub fn images() -> String {
+    image_list(4, READ)
+}
+
+pub fn written() -> String {
+    image_list(5, WRITTEN)
 }

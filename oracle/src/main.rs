@@ -1,7 +1,7 @@
 //! Makes lists of calls and answers them. `regenerate` builds and runs it.
 //!   oracle calls WHICH             writes the list to standard output: a part that the crate slotmap knows, then the bent part
 //!   oracle answers WHICH           answers the list on standard input, and counts the accepted and the refused calls of each part on standard error
-//! WHICH is dense, sweep, image or secondary. The first part is answered by the crate slotmap 1.1.1, unchanged, and the plain reading of the rules
+//! WHICH is dense, sweep, image, written or secondary. The first part is answered by the crate slotmap 1.1.1, unchanged, and the plain reading of the rules
 //! has to answer the same; the bent part, from the first line on that bends, by the plain reading alone.
 mod bent;
 mod bent_maps;
@@ -108,14 +108,15 @@ fn main() {
         ["calls", "sweep"] => with(generate::sweep(), bent_tables::sweep),
         ["calls", "secondary"] => with(generate::secondary(), bent_maps::secondary),
         ["calls", "image"] => with(generate::images(), bent_tables::images),
-        ["answers", "dense"] | ["answers", "image"] => answers_dense(0),
+        ["calls", "written"] => with(generate::written(), bent_tables::written),
+        ["answers", "dense"] | ["answers", "image"] | ["answers", "written"] => answers_dense(0),
         ["answers", "sweep"] => answers_dense(dense::OUTPUT),
         ["answers", "secondary"] => {
             let mut t = secondary::Secondary::new();
             answers(|line| t.call(line), PlainMap::new());
         }
         _ => {
-            eprintln!("usage: oracle calls|answers dense|sweep|image|secondary");
+            eprintln!("usage: oracle calls|answers dense|sweep|image|written|secondary");
             std::process::exit(2);
         }
     }

@@ -1,7 +1,6 @@
-// The calls on a table and its image, each answered for the list. The arrays are the parts that the table has.
+// The calls on a table and the images that it is rebuilt from, each answered for the list. The arrays are the parts that the table has.
 use answers::Answer;
 use answers::DIGEST;
-use answers::WRITTEN;
 use made::Made;
 use made::begun;
 use made_call::Call;
@@ -10,10 +9,9 @@ use replay::Line;
 use replay_lines::NO_LINE;
 use replay_state::state;
 use table::Header;
-use writing::Written;
 
 // Room for an image.
-pub(crate) const IMAGE: usize = 65_600;
+const IMAGE: usize = 65_600;
 
 // What the image that a line of the input spells would be rebuilt as, in a table of so many slots at most.
 fn judge(input: &[u8], at: usize, most: usize) -> Answer {
@@ -22,43 +20,13 @@ fn judge(input: &[u8], at: usize, most: usize) -> Answer {
     image_answers::counts(image_judge::judge_image(lines::first(&image, n), most))
 }
 
-fn length(h: Header, versions: &[u32], links: &[u32], keys: &[u64], values: &[u64]) -> Answer {
-    image_answers::length(image_write::image_len(h, versions, links, keys, values))
-}
-
-// An image that was written: how long it is, or its length and the whole buffer in one number.
-fn shown(out: &[u8], count: usize, digest: bool) -> Answer {
-    if digest {
-        return Answer::of(DIGEST, replay::mix_u8(replay::mix(0, count as u64), out));
-    }
-    Answer::of(WRITTEN, count as u64)
-}
-
-// The image written into a buffer.
-fn write(
-    h: Header,
-    versions: &[u32],
-    links: &[u32],
-    keys: &[u64],
-    values: &[u64],
-    out: &mut [u8],
-    digest: bool,
-) -> Answer {
-    let written = image_write::write_image(h, versions, links, keys, values, out);
-    match written {
-        Written::End(count) => shown(out, count, digest),
-        Written::Refused(why) => Answer::refused(why),
-    }
-}
-
-// The calls that look at the table or an image, or write the table's image. Any other letter is no call.
+// The calls that look at the table or an image. Any other letter is no call.
 fn look(
     h: Header,
     versions: &[u32],
     links: &[u32],
     keys: &[u64],
     values: &[u64],
-    out: &mut [u8],
     input: &[u8],
     at: usize,
     op: u8,
@@ -66,31 +34,35 @@ fn look(
     if op == b's' {
         return Answer::of(DIGEST, state(h, versions, links, keys, values));
     }
-    if op == b'N' {
-        return length(h, versions, links, keys, values);
-    }
     if op == b'J' {
         return judge(input, at, versions.len());
-    }
-    if op == b'W' || op == b'D' {
-        return write(h, versions, links, keys, values, out, op == b'D');
     }
     Answer::of(NO_LINE, 0)
 }
 
+// Whether a letter names one of the eight calls.
 fn changes(op: u8) -> bool {
-    op == b'i' || op == b'r' || op == b'd'
+    match op {
+        b'i' | b'r' | b'd' | b'a' | b'p' | b'z' | b'e' | b'v' | b'm' | b'x' => true,
+        _ => false,
+    }
 }
 
-// The call that may change the table: an insert, a remove or a detach.
+// The call that a line names. A key is the last two numbers, or the two before the value.
 fn change(line: Line) -> Call {
-    if line.op == b'i' {
-        return Call::Insert(line.c);
+    let op = line.op;
+    let key = line.key_of_value();
+    let value = line.c;
+    match op {
+        b'i' => Call::Insert(value),
+        b'r' => Call::Remove(line.key()),
+        b'd' => Call::Detach(line.key()),
+        b'a' => Call::Reattach { key, value },
+        b'p' => Call::Put { key, value },
+        b'z' => Call::Drain,
+        b'e' => Call::Clear,
+        _ => Call::Retain(line.rule()),
     }
-    if line.op == b'r' {
-        return Call::Remove(line.key());
-    }
-    Call::Detach(line.key())
 }
 
 // A table rebuilt from the image that a line of the input spells.
@@ -116,7 +88,6 @@ pub(crate) fn call(
     links: &mut [u32],
     keys: &mut [u64],
     values: &mut [u64],
-    out: &mut [u8],
     input: &[u8],
     at: usize,
     line: Line,
@@ -133,6 +104,6 @@ pub(crate) fn call(
     }
     Made {
         header: h,
-        answer: look(h, versions, links, keys, values, out, input, at, op),
+        answer: look(h, versions, links, keys, values, input, at, op),
     }
 }

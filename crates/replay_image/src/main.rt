@@ -1,9 +1,7 @@
-// Replays a list of slot images, written and rebuilt: a line of input is a call, a line of output its answer.
+// Replays a list of slot images, judged and rebuilt, and of calls on the rebuilt tables: a line of input is a call, a line of output its answer.
 mod calls;
 
 use answers::Answer;
-use answers::WRITTEN;
-use calls::IMAGE;
 use libc::STDIN_FILENO;
 use libc::STDOUT_FILENO;
 use replay::least;
@@ -15,17 +13,9 @@ const INPUT: usize = 1_500_000;
 
 const ROOM: usize = 4100;
 
-// The text of an answer, or of the image that was written.
-fn told(answer: Answer, out: &[u8], text: &mut [u8]) -> usize {
-    if answer.kind == WRITTEN {
-        return replay_hex::write_image(lines::first(out, answer.a as usize), text);
-    }
-    replay_lines::write_answer(answer, &[], text)
-}
-
-fn tell(answer: Answer, out: &[u8; IMAGE]) {
-    let mut text = [0u8; 1000];
-    let n = told(answer, out, &mut text);
+fn tell(answer: Answer) {
+    let mut text = [0u8; 80];
+    let n = replay_lines::write_answer(answer, &[], &mut text);
     io::write_all(STDOUT_FILENO, lines::first(&text, n));
 }
 
@@ -35,7 +25,6 @@ fn run(input: &[u8]) {
     let mut links = [0x5a5a_5a5au32; ROOM];
     let mut keys = [0x5a5a_5a5a_5a5a_5a5au64; ROOM];
     let mut values = [0x5a5a_5a5a_5a5a_5a5au64; ROOM];
-    let mut out = [0x5au8; IMAGE];
     let mut h = Header { n: 0, s: 0, f: 0 };
     let mut lent = Lent::none();
     let mut at = 0;
@@ -47,14 +36,12 @@ fn run(input: &[u8]) {
         let b = least(lent.links, ROOM);
         let k = least(lent.keys, ROOM);
         let v = least(lent.values, ROOM);
-        let o = least(line.c as usize, IMAGE);
         let made = calls::call(
             replay_bend::header(h, line),
             &mut versions[..a],
             &mut links[..b],
             &mut keys[..k],
             &mut values[..v],
-            &mut out[..o],
             input,
             at,
             line,
@@ -62,7 +49,7 @@ fn run(input: &[u8]) {
         let answer = made.answer;
         let g = made.header;
         h = g;
-        tell(answer, &out);
+        tell(answer);
         at = lines::line_end(input, at);
     }
 }

@@ -12,9 +12,6 @@ use replay_lines::NO_LINE;
 use replay_state::state;
 use table::Header;
 
-// Room for an image.
-const IMAGE: usize = 65_600;
-
 // The places of the keys that wait, and the whole state. Any other letter is no call.
 fn look(
     h: Header,
@@ -54,23 +51,7 @@ fn change(line: Line) -> Call {
     Call::Retain(line.rule())
 }
 
-// A table rebuilt from the image that a line of the input spells.
-fn rebuilt(
-    h: Header,
-    versions: &mut [u32],
-    links: &mut [u32],
-    keys: &mut [u64],
-    values: &mut [u64],
-    input: &[u8],
-    at: usize,
-) -> Made {
-    let mut image = [0u8; IMAGE];
-    let n = replay_input::image_at(input, at, &mut image);
-    let bytes = lines::first(&image, n);
-    begun(h, image_read::rebuild(versions, links, keys, values, bytes))
-}
-
-// Makes the call of the line at a place of the input.
+// Makes the call of a line.
 pub(crate) fn call(
     h: Header,
     versions: &mut [u32],
@@ -79,16 +60,11 @@ pub(crate) fn call(
     values: &mut [u64],
     places: &mut [u32],
     wanted: &[u64],
-    input: &[u8],
-    at: usize,
     line: Line,
 ) -> Made {
     let op = line.op;
     if op == b'C' {
         return begun(h, dense::fresh(versions, links, keys, values));
-    }
-    if op == b'R' {
-        return rebuilt(h, versions, links, keys, values, input, at);
     }
     if op == b'y' {
         return drain_step_by(h, versions, links, keys, values);

@@ -51,8 +51,6 @@ fn run(input: &[u8]) {
             &mut values[..v],
             &mut places[..o],
             &wanted[..w],
-            input,
-            at,
             line,
         );
         let answer = made.answer;
