@@ -6,7 +6,7 @@ use Rattle.lists.proofs.Only.{only-both}
 use Rattle.writing.specs.declared.Written.{Written}
 use Rattle.writing.proofs.Outcomes.{told-one-to-one}
 use Rattle.table.specs.Table.{Table}
-use Rattle.script.specs.Script.{Run, ranOf}
+use Rattle.script_input.specs.Script.{Run, ranOf}
 
 -- where the line ends, the arrays, the header and the buffer
 pub run-line-only : {x : Run} {r q : Written} {t u : Table} {b d : List ℕ} → ranOf r t b ≡ x → ranOf q u d ≡ x → (r ≡ q) × ((t ≡ u) × (b ≡ d))

@@ -4,7 +4,7 @@ ghost use Prim.Native.Nat.{_+_, _≤_};
 ghost use Rattle.writing.specs.Writing.{toldOf};
 ghost use Rattle.dense.specs.Lent.{before, after};
 ghost use Rattle.script_say.specs.Says.{room};
-ghost use Rattle.script.specs.Script.{endOf, ranOf, ran};
+ghost use Rattle.script_input.specs.Script.{endOf, ranOf, ran};
 use commands::parse;
 use refusal::Refusal;
 use script_act::act;

@@ -4,7 +4,7 @@ ghost use Prim.Native.Nat.{_+_, _≤_};
 ghost use Rattle.writing.specs.Writing.{toldOf};
 ghost use Rattle.dense.specs.Lent.{before, after};
 ghost use Rattle.script_say.specs.Says.{room};
-ghost use Rattle.script.specs.Script.{endOf};
+ghost use Rattle.script_input.specs.Script.{endOf};
 ghost use Rattle.script_input.specs.Machine.{machine, stepOf, closed, took, fedOf, fed, finished};
 ghost use Rattle.script_input.specs.Ready.{Ready};
 use refusal::Refusal;

@@ -26,7 +26,7 @@ use Rattle.table.proofs.Undamaged.{no-damage}
 use Rattle.commands.specs.Lines.{Asked, asks, asks-len, rejects, asked}
 use Rattle.script_look.specs.Answers.{answered}
 use Rattle.script_say.specs.Says.{lineOut, room}
-use Rattle.script.specs.Script.{capacity}
+use Rattle.script_input.specs.Script.{capacity}
 use Rattle.script_input.specs.Input.{lines, ahead, printedLines, calledBy, called}
 use Rattle.script_input.specs.Machine.{held, machine, areWithin, fedAll}
 use Rattle.script_input.proofs.Cuts.{parts-printed}

@@ -13,8 +13,8 @@ use Rattle.lists.proofs.Tests.{split, and-left, and-right, same-test}
 use Rattle.writing.specs.Told.{Told, tells, refused}
 use Rattle.table.specs.Table.{Table}
 use Rattle.script_say.specs.Says.{newline, room}
-use Rattle.script.specs.Script.{endOf, Run, ran}
-use Rattle.script.proofs.Runs.{ran-fits}
+use Rattle.script_input.specs.Script.{endOf, Run, ran}
+use Rattle.script_input.proofs.Runs.{ran-fits}
 use Rattle.script_input.specs.Machine.{held, Machine, machine, begun, Step, stepOf, closed, took, tookAll, isReadyFor, isReady, Fed, ending, fed, finished}
 use Rattle.script_input.specs.Ready.{Ready}
 

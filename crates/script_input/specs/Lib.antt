@@ -1,3 +1,4 @@
+pub mod Script
 pub mod Input
 pub mod Machine
 pub mod Ready

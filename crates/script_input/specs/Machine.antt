@@ -13,7 +13,7 @@ use Rattle.table.specs.Calls.{Out}
 use Rattle.commands.specs.Lines.{longest, asked}
 use Rattle.script_look.specs.Answers.{answered}
 use Rattle.script_say.specs.Says.{newline, lineOut, room}
-use Rattle.script.specs.Script.{endOf}
+use Rattle.script_input.specs.Script.{endOf}
 
 -- how many bytes of a line are held: one more than a line may have, so that a longer one shows
 abbrev pub held : ℕ

@@ -2,7 +2,7 @@
 use Prim.Native.Nat.{zero-le}
 use borrow.Author.Needs.{needs}
 use Rattle.lists.proofs.Tests.{refuted, confirmed}
-use Rattle.script.proofs.Runs.{ran-short, runs, ends-in-room}
+use Rattle.script_input.proofs.Runs.{ran-short, runs, ends-in-room}
 use Rattle.script.proofs.run_line.Statement.{statement}
 use Rattle.script.proofs.run_line.Tie as tie
 

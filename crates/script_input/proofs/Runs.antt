@@ -15,7 +15,7 @@ use Rattle.commands.specs.Lines.{Asked, asked}
 use Rattle.script_look.specs.Answers.{answered}
 use Rattle.script_say.specs.Says.{lineOut, room, lined}
 use Rattle.script_say.proofs.Says.{said-lined}
-use Rattle.script.specs.Script.{endOf, Run, shown, ran}
+use Rattle.script_input.specs.Script.{endOf, Run, shown, ran}
 
 -- where the room was judged, an answer's line stands whole, and ends within it
 module _ (at : ℕ) (b d : List ℕ) (s : Said) {w : Told ℕ} (h : leb (at + room) (length b) ≡ true) (g : _≡_ {A = Told ℕ × List ℕ} (w, d) (written at (lineOut s) b)) (l : length (lineOut s) ≤ room) where
