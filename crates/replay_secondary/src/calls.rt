@@ -73,46 +73,38 @@ fn look(h: MapHeader, versions: &[u32], values: &[u64], places: &[u32], line: Li
     Answer::of(NO_LINE, 0)
 }
 
-fn sweeps(op: u8) -> bool {
-    op == b'z' || op == b'e' || op == b'v' || op == b'm' || op == b'x'
+// Whether a letter names a call that may write versions alone.
+fn changes(op: u8) -> bool {
+    match op {
+        b'L' | b'r' | b'z' | b'e' | b'v' | b'm' | b'x' => true,
+        _ => false,
+    }
 }
 
-// The calls that sweep: a step of a drain, a clear, a retain.
-fn sweep(h: MapHeader, versions: &mut [u32], values: &mut [u64], line: Line) -> Made {
+// The calls that may write versions alone: fresh, a remove, a step of a drain, a clear, a retain. A key is the last two numbers of a line.
+fn change(h: MapHeader, versions: &mut [u32], values: &[u64], line: Line) -> Made {
     let op = line.op;
-    if op == b'z' {
-        return drain_step(h, versions, values, narrow(line.c));
+    match op {
+        b'L' => begun(h, secondary_put::fresh(versions, values)),
+        b'r' => remove(h, versions, values, line.key()),
+        b'z' => drain_step(h, versions, values, narrow(line.c)),
+        b'e' => clear(h, versions, values),
+        _ => retain(h, versions, values, line.rule()),
     }
-    if op == b'e' {
-        return clear(h, versions, values);
-    }
-    retain(h, versions, values, line.rule())
 }
 
-// Makes the call of a line. A key is the last two numbers of a line, or the two before the value.
-pub(crate) fn call(
+// The calls that write no value.
+fn keep(
     h: MapHeader,
     versions: &mut [u32],
-    values: &mut [u64],
+    values: &[u64],
     places: &mut [u32],
     wanted: &[u64],
     line: Line,
 ) -> Made {
     let op = line.op;
-    if op == b'L' {
-        return begun(h, secondary_put::fresh(versions, values));
-    }
-    if op == b'i' {
-        return insert(h, versions, values, line.key_of_value(), line.c);
-    }
-    if op == b'p' {
-        return put(h, versions, values, line.key_of_value(), line.c);
-    }
-    if op == b'r' {
-        return remove(h, versions, values, line.key());
-    }
-    if sweeps(op) {
-        return sweep(h, versions, values, line);
+    if changes(op) {
+        return change(h, versions, values, line);
     }
     if op == b'j' {
         return Made {
@@ -124,4 +116,24 @@ pub(crate) fn call(
         header: h,
         answer: look(h, versions, values, places, line),
     }
+}
+
+// Makes the call of a line. The key of a put or an insert stands before the value.
+pub(crate) fn call(
+    h: MapHeader,
+    versions: &mut [u32],
+    values: &mut [u64],
+    places: &mut [u32],
+    wanted: &[u64],
+    line: Line,
+) -> Made {
+    let op = line.op;
+    let key = line.key_of_value();
+    if op == b'i' {
+        return insert(h, versions, values, key, line.c);
+    }
+    if op == b'p' {
+        return put(h, versions, values, key, line.c);
+    }
+    keep(h, versions, values, places, wanted, line)
 }

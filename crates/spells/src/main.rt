@@ -11,9 +11,7 @@ use lines::first;
 use lines::line_at;
 use lines::line_end;
 use made::Made;
-use made::detach;
 use made::insert;
-use made::reattach;
 use made::remove;
 use table::Header;
 use writing::Written;
@@ -34,9 +32,7 @@ fn spells(text: &[u8]) {
     let c = remark(text, b);
     tell(Answer::of(KEY, KeyData::null().as_ffi()));
     tell(Answer::of(KEY, KeyData::new(4294967295, 3).as_ffi()));
-    let d = remark(text, c);
-    detached();
-    remark(text, d);
+    remark(text, c);
     wraps();
 }
 
@@ -76,26 +72,6 @@ fn two(text: &[u8]) -> usize {
     told(insert(left, &mut versions, &mut links, &mut keys, &mut values, 9));
     show_numbers(&keys);
     d
-}
-
-fn detached() {
-    let h = Header { n: 0, s: 1, f: 1 };
-    let mut versions = [0u32; 2];
-    let mut links = [0u32; 2];
-    let mut keys = [0u64; 1];
-    let mut values = [0u64; 1];
-    let a = told(insert(h, &mut versions, &mut links, &mut keys, &mut values, 7));
-    let b = told(detach(a, &mut versions, &mut links, &mut keys, &mut values, FIRST));
-    let c = told(insert(b, &mut versions, &mut links, &mut keys, &mut values, 8));
-    told(reattach(
-        c,
-        &mut versions,
-        &mut links,
-        &mut keys,
-        &mut values,
-        FIRST,
-        9,
-    ));
 }
 
 fn wraps() {

@@ -1,5 +1,5 @@
-// The spells of the rules that begin a table, from an image or fresh, through the real code. The remarks of standard input are the rules' own words, one
-// before each spell.
+// The spells of the rules that begin a table, from an image or fresh, and that of the detached element, through the real code. The remarks of standard input
+// are the rules' own words, one before each spell.
 use answers::Answer;
 use dense::LIMIT;
 use dense::Started;
@@ -10,7 +10,14 @@ use libc::STDOUT_FILENO;
 use lines::first;
 use lines::line_at;
 use lines::line_end;
+use made::Made;
+use made::detach;
 use made::insert;
+use made::reattach;
+use table::Header;
+
+// 1v1
+const FIRST: u64 = 0x1_0000_0001;
 
 fn main() {
     let mut buffer = io::buffer();
@@ -27,8 +34,10 @@ fn spells(text: &[u8]) {
     rebuilt(&[0x00]);
     let d = remark(text, c);
     rebuilt(&[0x01, 0x80, 0x00, 0x00]);
-    remark(text, d);
+    let e = remark(text, d);
     limits();
+    remark(text, e);
+    detached();
 }
 
 fn threads() {
@@ -73,6 +82,26 @@ fn limits() {
     ));
 }
 
+fn detached() {
+    let h = Header { n: 0, s: 1, f: 1 };
+    let mut versions = [0u32; 2];
+    let mut links = [0u32; 2];
+    let mut keys = [0u64; 1];
+    let mut values = [0u64; 1];
+    let a = told(insert(h, &mut versions, &mut links, &mut keys, &mut values, 7));
+    let b = told(detach(a, &mut versions, &mut links, &mut keys, &mut values, FIRST));
+    let c = told(insert(b, &mut versions, &mut links, &mut keys, &mut values, 8));
+    told(reattach(
+        c,
+        &mut versions,
+        &mut links,
+        &mut keys,
+        &mut values,
+        FIRST,
+        9,
+    ));
+}
+
 // ---- what the program prints
 
 // Says the line of a text that begins at a place, and hands back where the next one begins.
@@ -85,6 +114,13 @@ fn tell(answer: Answer) {
     let mut text = [0u8; 80];
     let end = answer_lines::line(answer, 0, &mut text);
     io::write_all(STDOUT_FILENO, first(&text, end));
+}
+
+// Tells what a call answered, and hands back the header.
+fn told(made: Made) -> Header {
+    let answer = made.answer;
+    tell(answer);
+    made.header
 }
 
 fn begun(answer: Started) {
