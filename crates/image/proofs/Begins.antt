@@ -20,9 +20,9 @@ use Rattle.keys.proofs.Keys.{pack-same, read-pack, read-is, is-read}
 use Rattle.records.specs.declared.Record.{Record}
 use Rattle.records.specs.Records.{versionOf}
 use Rattle.table.specs.Table.{Table}
-use Rattle.table.specs.Reading.{valueIn, keysOf}
-use Rattle.table.specs.Begins.{Begins}
-use Rattle.table.proofs.Readings.{none-value, mem-value}
+use Rattle.history.specs.Reading.{valueIn, keysOf}
+use Rattle.history.specs.Begins.{Begins}
+use Rattle.history.proofs.Readings.{none-value, mem-value}
 use Rattle.image.specs.Rebuild.{slotIn, isFull, keyIn, valIn, rebuilt}
 use Rattle.image.specs.Recorded.{Given, isRecorded, recorded, Recorded, liveIn, baseOf}
 use Rattle.image.proofs.Slots.{full-low}

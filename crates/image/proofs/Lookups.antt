@@ -17,12 +17,12 @@ use Rattle.keys.proofs.Keys.{version-odd, idx-pack}
 use Rattle.records.specs.declared.Record.{Record}
 use Rattle.table.specs.Table.{Table, link, key, val, isLive, isDetached}
 use Rattle.table.specs.Calls.{said-value, Out, lookup}
-use Rattle.table.specs.Begins.{find, valueOr}
+use Rattle.history.specs.Begins.{find, valueOr}
 use Rattle.table.proofs.Shape.{lengths}
 use Rattle.table.proofs.Judged.{Live, live}
 use Rattle.table.proofs.Facts.{facts-live, not-detached}
 use Rattle.table.proofs.Cases.{lookup-live, lookup-dead}
-use Rattle.table.proofs.Follows.{find-live, find-dead}
+use Rattle.history.proofs.Follows.{find-live, find-dead}
 use Rattle.table.proofs.Thread.{next-high}
 use Rattle.image.specs.Rebuild.{slotIn, isFull, isBare, valIn, rebuilt}
 use Rattle.image.specs.Recorded.{Given, isRecorded, recorded, Recorded}

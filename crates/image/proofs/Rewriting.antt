@@ -27,12 +27,12 @@ use Rattle.table.specs.declared.Header.{Header}
 use Rattle.table.specs.Table.{Table, ver, link, val, isLive, lengthsFit}
 use Rattle.table.specs.Calls.{begins}
 use Rattle.table.specs.Sound.{Sound}
-use Rattle.table.specs.Begins.{find}
+use Rattle.history.specs.Begins.{find}
 use Rattle.table.proofs.Shape.{shape}
 use Rattle.table.proofs.Judged.{live}
 use Rattle.table.proofs.Facts.{facts-live}
 use Rattle.table.proofs.Orderly.{Orderly, orderly}
-use Rattle.table.proofs.Follows.{find-live, find-dead}
+use Rattle.history.proofs.Follows.{find-live, find-dead}
 use Rattle.table.proofs.Decides.{sound-passes}
 use Rattle.lists.specs.Tests.{first}
 use Rattle.table.proofs.Refused.{first-holds}

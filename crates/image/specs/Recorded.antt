@@ -13,7 +13,7 @@ use Rattle.keys.specs.Keys.{idx, version}
 use Rattle.records.specs.declared.Record.{Record}
 use Rattle.records.specs.Records.{versionOf, FitAll}
 use Rattle.table.specs.Table.{lengthsFit}
-use Rattle.table.specs.Reading.{Reading}
+use Rattle.history.specs.Reading.{Reading}
 use Rattle.image.specs.Rebuild.{fitting, slotIn, valueOf, isFull, keyIn, valIn}
 
 -- lists whose lengths fit, and an accepted list of records for them: at most C+1, of machine numbers, with no fault 13 or 14

@@ -15,13 +15,13 @@ use Rattle.table.specs.Table.{Table, cap, lengthsFit}
 use Rattle.table.specs.Calls.{said-key, said-done, said-count, refused, begins, freshHead, fresh, freshTable}
 use Rattle.table.specs.Sound.{Sound}
 use Rattle.table.specs.Steps.{Call, c-lookup, c-insert, c-remove, c-detach, c-reattach, step, after, history}
-use Rattle.table.specs.Reading.{Reading, reading, valueIn}
-use Rattle.table.specs.Begins.{Begins, valueOr}
-use Rattle.table.proofs.Begins.{begins-after}
+use Rattle.history.specs.Reading.{Reading, reading, valueIn}
+use Rattle.history.specs.Begins.{Begins, valueOr}
+use Rattle.history.proofs.Begins.{begins-after}
 use Rattle.table.proofs.Keeps.{sound-fresh, sound-after}
-use Rattle.table.proofs.Promises.{lookup-reads, remove-reads, detach-reads, reattach-reads, insert-new}
-use Rattle.table.proofs.Counted.{insert-reads}
-use Rattle.table.proofs.Listed.{len-reads}
+use Rattle.history.proofs.Promises.{lookup-reads, remove-reads, detach-reads, reattach-reads, insert-new}
+use Rattle.history.proofs.Counted.{insert-reads}
+use Rattle.history.proofs.Listed.{len-reads}
 use Rattle.table.proofs.Undamaged.{no-damage}
 use Rattle.commands.specs.Lines.{Asked, asks, asks-len, rejects, asked}
 use Rattle.script_look.specs.Answers.{answered}

@@ -3,8 +3,6 @@ pub mod Calls
 pub mod Sound
 pub mod Sweeps
 pub mod Steps
-pub mod Reading
 pub mod Thread
 pub mod Refused
 pub mod Frames
-pub mod Begins

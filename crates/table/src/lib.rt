@@ -1,4 +1,4 @@
-// The dense table on paper: its calls as definitions, what sound means, what a list of calls says of the keys, and the theorems over them.
+// The dense table on paper: its calls as definitions, what sound means, and the theorems of one call.
 // The only code is the header that the calls take and give back.
 
 // The three numbers of a table: elements, slots, and the slot that the next insert takes.

@@ -14,17 +14,17 @@ use borrow.Author.Tests.{eq-eqb, ne-eqb}
 use Rattle.lists.proofs.Tests.{split, same-test, true-false}
 use Rattle.keys.specs.Keys.{W, far, idx, vsn, pack, version, asRead, up}
 use Rattle.keys.proofs.Keys.{version-odd, version-word, read-is, is-read, idx-read, version-read}
 use Rattle.table.specs.Table.{Table, ver, link, key, val, isLive, withValue}
 use Rattle.table.specs.Sound.{Sound}
-use Rattle.table.specs.Begins.{find, away}
-use Rattle.table.proofs.Changes.{sieve, onSome}
+use Rattle.history.specs.Begins.{find, away}
+use Rattle.history.proofs.Changes.{sieve, onSome}
 use Rattle.table.proofs.Judged.{Live, live}
 use Rattle.table.proofs.Facts.{facts-live, not-live, Detached, detached-facts, facts-detached, not-detached}
 use Rattle.table.proofs.Orderly.{Orderly, Occupied, orderly}
 use Rattle.table.proofs.Leave.{Leaves, last-home, vacant-off, without-link}
 use Rattle.table.proofs.Enter.{Enters, Widens}
 use Rattle.table.proofs.Cases.{live-place, stored-occupied, stored-live}
 use Rattle.table.proofs.Sieve.{dropped, dropped-leaves}
 
 abbrev LiveKey : Table → ℕ → Type 0
 LiveKey t k = Live t (idx k) (version k)

@@ -16,21 +16,21 @@ use Rattle.lists.specs.Once.{Once}
 use Rattle.lists.proofs.Once.{once-append, getD-mem, once-inj, place, place-at, mem-dec}
 use Rattle.keys.specs.Keys.{W, idx, version}
 use Rattle.keys.proofs.Keys.{idx-pack}
 use Rattle.table.specs.Table.{Table, cap, isDetached}
 use Rattle.table.specs.Calls.{refused, insert}
 use Rattle.table.specs.Steps.{Call, after, history}
-use Rattle.table.specs.Reading.{Reading, reading, keysOf}
-use Rattle.table.specs.Begins.{Begins}
+use Rattle.history.specs.Reading.{Reading, reading, keysOf}
+use Rattle.history.specs.Begins.{Begins}
 use Rattle.table.specs.Refused.{Used}
-use Rattle.table.proofs.Readings.{length-keys, value-mem, in-mem}
+use Rattle.history.proofs.Readings.{length-keys, value-mem, in-mem}
 use Rattle.table.proofs.Shape.{Shape, shape}
 use Rattle.table.proofs.Judged.{Live, live}
 use Rattle.table.proofs.Facts.{facts-live, detached-facts, facts-detached}
 use Rattle.table.proofs.Keeps.{cap-after}
-use Rattle.table.proofs.Follows.{find-live}
-use Rattle.table.proofs.Begins.{base-live, base-detached, begins-after}
-use Rattle.table.proofs.Clock.{own, live-own, away-own}
-use Rattle.table.proofs.Full.{full-iff}
+use Rattle.history.proofs.Follows.{find-live}
+use Rattle.history.proofs.Begins.{base-live, base-detached, begins-after}
+use Rattle.history.proofs.Clock.{own, live-own, away-own}
+use Rattle.history.proofs.Full.{full-iff}
 
 module _ (t : Table) (base : Reading) (b : Begins t base) where
   s : Shape t

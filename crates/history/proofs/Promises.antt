@@ -13,21 +13,21 @@ use Rattle.lists.proofs.Tests.{split}
 use Rattle.lists.specs.Among.{among}
 use Rattle.keys.specs.Keys.{idx, version, asRead}
 use Rattle.rules.specs.declared.Rule.{Rule}
 use Rattle.table.specs.Table.{Table, link, key, val, isLive, dead, isDetached, last}
 use Rattle.table.specs.Calls.{Said, said-key, said-value, said-pair, said-done, said-truth, refused, Out, contains, lookup, put, insert, remove, detach, reattach, drain}
 use Rattle.table.specs.Sweeps.{retain, clear}
 use Rattle.table.specs.Sound.{Sound}
 use Rattle.table.specs.Steps.{Call, c-insert, step, after, history}
-use Rattle.table.specs.Reading.{Change, change, Reading, changed, reading, valueIn, removedAt, removals, keysOf}
-use Rattle.table.specs.Begins.{find, away, Begins, valueOr, isSome}
+use Rattle.history.specs.Reading.{Change, change, Reading, changed, reading, valueIn, removedAt, removals, keysOf}
+use Rattle.history.specs.Begins.{find, away, Begins, valueOr, isSome}
 use Rattle.table.proofs.Refused.{refused-keeps}
-use Rattle.table.proofs.Readings.{mem-value}
+use Rattle.history.proofs.Readings.{mem-value}
 use Rattle.table.proofs.Judged.{Live, live}
 use Rattle.table.proofs.Facts.{detached-facts}
 use Rattle.table.proofs.Cases.{live-place, stored-read, lookup-live, lookup-dead, put-live, put-dead, remove-live, remove-dead, detach-live, detach-dead, reattach-met, reattach-not, drain-some, drain-none, retain-is, clear-is}
-use Rattle.table.proofs.Follows.{find-live, find-dead, find-not, find-stored}
-use Rattle.table.proofs.Answers.{change-refused}
-use Rattle.table.proofs.Begins.{Absent, Fits, step-fits, insert-read, base-value, base-away, begins-after}
+use Rattle.history.proofs.Follows.{find-live, find-dead, find-not, find-stored}
+use Rattle.history.proofs.Answers.{change-refused}
+use Rattle.history.proofs.Begins.{Absent, Fits, step-fits, insert-read, base-value, base-away, begins-after}
 
 -- ---- on a sound table, by what lookup finds
 

@@ -12,25 +12,25 @@ use Rattle.lists.proofs.Tests.{split}
 use Rattle.lists.proofs.Once.{once-nil, sublist-mem}
 use Rattle.keys.specs.Keys.{W, idx, pack, version, asRead}
 use Rattle.keys.proofs.Keys.{version-odd, idx-pack, read-pack, version-pack, read-read}
 use Rattle.table.specs.declared.Header.{Header}
 use Rattle.table.specs.Table.{Table, ver, link, key, val, isLive, last}
 use Rattle.table.specs.Calls.{said-key, Out, begins, fresh, freshTable, insert}
 use Rattle.table.specs.Sound.{Sound}
 use Rattle.table.specs.Steps.{Call, step, after, history}
-use Rattle.table.specs.Reading.{Change, nothing, issued, returned, revalued, dies, parts, sieved, change, Reading, blank, changed, reading, valueIn, keysOf}
-use Rattle.table.specs.Begins.{find, away, Begins}
-use Rattle.table.proofs.Changes.{livesAfter, detachedAfter}
-use Rattle.table.proofs.Readings.{mem-value, mem-in, value-changed, detached-changed, NewKey, once-changed, once-detached, without-sublist, sifted-sublist, valued-sublist, except-sublist}
+use Rattle.history.specs.Reading.{Change, nothing, issued, returned, revalued, dies, parts, sieved, change, Reading, blank, changed, reading, valueIn, keysOf}
+use Rattle.history.specs.Begins.{find, away, Begins}
+use Rattle.history.proofs.Changes.{livesAfter, detachedAfter}
+use Rattle.history.proofs.Readings.{mem-value, mem-in, value-changed, detached-changed, NewKey, once-changed, once-detached, without-sublist, sifted-sublist, valued-sublist, except-sublist}
 use Rattle.table.proofs.Refused.{fresh-begun}
 use Rattle.table.proofs.Judged.{Live, live}
 use Rattle.table.proofs.Facts.{Detached, detached-facts, facts-detached, not-detached}
 use Rattle.table.proofs.Orderly.{Orderly, orderly}
 use Rattle.table.proofs.Enter.{head-free}
 use Rattle.table.proofs.Cases.{stored-live, issued-ways}
 use Rattle.table.proofs.Outcomes.{Outcome, outcome, refuses, looks, puts, takes, grows, removes, detaches, reattaches, drains, done, retains, clears}
 use Rattle.table.proofs.Keeps.{sound-fresh, sound-step}
-use Rattle.table.proofs.Follows.{find-live, find-dead, find-not, find-read, away-read}
-use Rattle.table.proofs.Answers.{change-refused, step-follows}
+use Rattle.history.proofs.Follows.{find-live, find-dead, find-not, find-read, away-read}
+use Rattle.history.proofs.Answers.{change-refused, step-follows}
 
 -- ---- what a change says of the key that it names
 

@@ -7,20 +7,20 @@ use native.Mathlib.Omega.{arith}
 use Rattle.keys.specs.Keys.{far, idx, pack, version, asRead}
 use Rattle.keys.proofs.Keys.{version-odd, version-word, is-read, idx-read, read-pack}
 use Rattle.rules.specs.Rules.{keepsOf}
 use Rattle.table.specs.Table.{Table, ver, link, last}
 use Rattle.table.specs.Calls.{refused, Out}
 use Rattle.table.specs.Sound.{Sound}
 use Rattle.table.specs.Steps.{Call, c-lookup, c-put, c-insert, c-remove, c-detach, c-reattach, c-drain, c-retain, c-clear, step}
-use Rattle.table.specs.Reading.{nothing, change}
-use Rattle.table.specs.Begins.{find, away}
-use Rattle.table.proofs.Changes.{livesAfter, detachedAfter}
+use Rattle.history.specs.Reading.{nothing, change}
+use Rattle.history.specs.Begins.{find, away}
+use Rattle.history.proofs.Changes.{livesAfter, detachedAfter}
 use Rattle.table.proofs.Orderly.{Orderly, orderly}
 use Rattle.table.proofs.Leave.{without-leaves, without-link, apart-leaves, apart-link}
 use Rattle.table.proofs.Enter.{head-free, taken-widens, taken-enters, grown-widens, grown-enters, rejoined-widens, rejoined-enters}
 use Rattle.table.proofs.Cases.{live-occupied, detached-vacant, stored-read}
 use Rattle.table.proofs.Outcomes.{Outcome, outcome, refuses, looks, puts, takes, grows, removes, detaches, reattaches, drains, done, retains, clears}
 use Rattle.table.proofs.Sieve.{retained, cleared}
-use Rattle.table.proofs.Follows.{find-leave, away-freed, away-parted, find-enter, away-new, away-back, find-put, away-put, Sieves, sieves-same, find-dropped, away-dropped, sieves-drop}
+use Rattle.history.proofs.Follows.{find-leave, away-freed, away-parted, find-enter, away-new, away-back, find-put, away-put, Sieves, sieves-same, find-dropped, away-dropped, sieves-drop}
 
 -- ---- each call's own reading
 

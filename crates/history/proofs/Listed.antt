@@ -8,44 +8,21 @@ use Prim.Native.Nat.{ℕ, _<_}
 use native.Mathlib.Omega.{arith}
 use lib.Dec.{eqb}
 use lib.ListN.{length, getD}
-use lib.Seq.{length-take-le, getD-take}
 use Rattle.lists.specs.Once.{Once}
 use Rattle.lists.proofs.Once.{getD-mem, inj-once, place, place-at, length-lists-same}
 use Rattle.keys.specs.Keys.{idx, version}
 use Rattle.keys.proofs.Keys.{is-read}
 use Rattle.table.specs.Table.{Table, ver, link, key, val}
 use Rattle.table.specs.Calls.{said-count, said-truth, len, isEmpty, listedKeys, listedValues}
 use Rattle.table.specs.Sound.{Sound}
 use Rattle.table.specs.Steps.{Call, after, history}
-use Rattle.table.specs.Reading.{Reading, reading, valueIn, keysOf}
-use Rattle.table.specs.Begins.{Begins}
-use Rattle.table.proofs.Shape.{Shape, shape}
-use Rattle.table.proofs.Readings.{length-keys, value-mem}
+use Rattle.history.specs.Reading.{Reading, reading, valueIn, keysOf}
+use Rattle.history.specs.Begins.{Begins}
+use Rattle.table.proofs.Lists.{keys-count, values-count, key-at, value-at, len-counts, empty-counts}
+use Rattle.history.proofs.Readings.{length-keys, value-mem}
 use Rattle.table.proofs.Cases.{stored-version, stored-read, live-place}
-use Rattle.table.proofs.Follows.{find-stored}
-use Rattle.table.proofs.Begins.{base-value, base-live, begins-after}
-
--- ---- the lists that are answered, place by place
-
-module _ (t : Table) (a : Sound t) where
-  s : Shape t
-  s = shape t (a .shape)
-
-  keys-count : length (listedKeys t) ≡ t .head .n
-  unfolding listedKeys
-  keys-count = let z = s in rw (a .shape) (length-take-le _ _ (omega (arith, z)))
-
-  values-count : length (listedValues t) ≡ t .head .n
-  unfolding listedValues
-  values-count = let z = s in rw (a .shape) (length-take-le _ _ (omega (arith, z)))
-
-  key-at : (p : ℕ) → p < t .head .n → getD (listedKeys t) p 0 ≡ key t p
-  unfolding listedKeys
-  key-at p h = rw (a .shape) (getD-take _ _ p 0 h)
-
-  value-at : (p : ℕ) → p < t .head .n → getD (listedValues t) p 0 ≡ val t p
-  unfolding listedValues
-  value-at p h = rw (a .shape) (getD-take _ _ p 0 h)
+use Rattle.history.proofs.Follows.{find-stored}
+use Rattle.history.proofs.Begins.{base-value, base-live, begins-after}
 
 -- ---- the live keys
 
@@ -100,12 +77,10 @@ module _ (t : Table) (base : Reading) (b : Begins t base) where
       ∙ length-keys (base .live)
 
   pub len-lives : len t ≡ said-count (length (base .live))
-  unfolding len
-  len-lives = rw (b .sound .shape) (ap said-count count-lives)
+  len-lives = len-counts t (b .sound) ∙ ap said-count count-lives
 
   pub empty-lives : isEmpty t ≡ said-truth (eqb (length (base .live)) 0)
-  unfolding isEmpty
-  empty-lives = rw (b .sound .shape) (ap (λ (m : ℕ). said-truth (eqb m 0)) count-lives)
+  empty-lives = empty-counts t (b .sound) ∙ ap (λ (m : ℕ). said-truth (eqb m 0)) count-lives
 
   pub values-length : length (listedValues t) ≡ length (base .live)
   values-length = values-count t (b .sound) ∙ count-lives

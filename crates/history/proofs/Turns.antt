@@ -15,25 +15,25 @@ use Rattle.keys.specs.Keys.{W, far, idx, pack, version, asRead, up, down}
 use Rattle.keys.proofs.Keys.{version-odd, version-word, idx-read, idx-pack}
 use Rattle.keys.proofs.Versions.{down-up}
 use Rattle.rules.specs.Rules.{keepsOf}
 use Rattle.table.specs.Table.{Table, ver, link, key, val, last, isLive, withValue}
 use Rattle.table.specs.Calls.{Out}
 use Rattle.table.specs.Sound.{Sound}
 use Rattle.table.specs.Steps.{Call, step}
-use Rattle.table.specs.Reading.{change, Reading, removedAt, droppedAt, valueIn, keysOf}
-use Rattle.table.specs.Begins.{find, Begins}
-use Rattle.table.proofs.Readings.{none-value, drops, dropped-one}
+use Rattle.history.specs.Reading.{change, Reading, removedAt, droppedAt, valueIn, keysOf}
+use Rattle.history.specs.Begins.{find, Begins}
+use Rattle.history.proofs.Readings.{none-value, drops, dropped-one}
 use Rattle.table.proofs.Judged.{live}
 use Rattle.table.proofs.Orderly.{Orderly, Occupied, orderly}
 use Rattle.table.proofs.Leave.{Leaves, vacant-off, without-leaves, without-link, apart-leaves, apart-link}
 use Rattle.table.proofs.Enter.{Enters, Widens, head-free, taken-widens, taken-enters, grown-widens, grown-enters, rejoined-widens, rejoined-enters}
 use Rattle.table.proofs.Cases.{live-occupied, live-place, detached-vacant, stored-occupied}
 use Rattle.table.proofs.Outcomes.{Outcome, outcome, refuses, looks, puts, takes, grows, removes, detaches, reattaches, drains, done, retains, clears}
 use Rattle.table.proofs.Sieve.{dropped, dropped-leaves, retained, cleared}
-use Rattle.table.proofs.Follows.{find-live, find-dead, find-not, find-stored, find-dropped}
-use Rattle.table.proofs.Answers.{change-refused}
-use Rattle.table.proofs.Begins.{base-value}
-use Rattle.table.proofs.Clock.{clock, clock-odd, clock-away, clock-free, clock-new, clock-same, own}
-use Rattle.table.proofs.Counted.{live-own-key}
+use Rattle.history.proofs.Follows.{find-live, find-dead, find-not, find-stored, find-dropped}
+use Rattle.history.proofs.Answers.{change-refused}
+use Rattle.history.proofs.Begins.{base-value}
+use Rattle.history.proofs.Clock.{clock, clock-odd, clock-away, clock-free, clock-new, clock-same, own}
+use Rattle.history.proofs.Counted.{live-own-key}
 
 -- m removals at the index i from t to u: none, or one
 abbrev pub Falls : Table → Table → ℕ → ℕ → Type 0

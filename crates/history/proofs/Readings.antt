@@ -16,8 +16,8 @@ use Rattle.lists.proofs.Tests.{split, true-false}
 use Rattle.lists.specs.Once.{Once}
 use Rattle.lists.proofs.Once.{once-head, once-tail, once-cons, once-sublist}
 use Rattle.keys.specs.Keys.{idx}
-use Rattle.table.specs.Reading.{Change, nothing, issued, returned, revalued, dies, parts, sieved, Reading, without, except, valued, sifted, changed, valueIn, droppedAt, keysOf}
-use Rattle.table.proofs.Changes.{onSome, sieve, livesAfter, detachedAfter}
+use Rattle.history.specs.Reading.{Change, nothing, issued, returned, revalued, dies, parts, sieved, Reading, without, except, valued, sifted, changed, valueIn, droppedAt, keysOf}
+use Rattle.history.proofs.Changes.{onSome, sieve, livesAfter, detachedAfter}
 
 -- ---- one entry: at its own key, and at another
 

@@ -12,21 +12,21 @@ use borrow.Author.Tests.{eq-eqb}
 use Rattle.keys.specs.Keys.{W, far, idx, version, asRead, down}
 use Rattle.keys.proofs.Keys.{idx-pack, version-pack, version-odd, version-word}
 use Rattle.keys.proofs.Versions.{down-up}
 use Rattle.table.specs.Table.{Table, ver, link}
 use Rattle.table.specs.Calls.{Said, said-key, insert}
 use Rattle.table.specs.Sound.{Sound}
 use Rattle.table.specs.Steps.{Call, c-insert, step, after, history}
-use Rattle.table.specs.Reading.{change, Reading, changed, reading, valueIn, removedAt, removals, Known, round}
-use Rattle.table.specs.Begins.{Begins}
-use Rattle.table.proofs.Readings.{value-mem, in-mem}
+use Rattle.history.specs.Reading.{change, Reading, changed, reading, valueIn, removedAt, removals, Known, round}
+use Rattle.history.specs.Begins.{Begins}
+use Rattle.history.proofs.Readings.{value-mem, in-mem}
 use Rattle.table.proofs.Judged.{live}
 use Rattle.table.proofs.Orderly.{orderly}
 use Rattle.table.proofs.Enter.{head-free}
 use Rattle.table.proofs.Cases.{issued-ways}
-use Rattle.table.proofs.Begins.{base-live, base-detached, begins-after}
-use Rattle.table.proofs.Promises.{insert-new}
-use Rattle.table.proofs.Clock.{clock, clock-odd, clock-away, clock-free, clock-new}
-use Rattle.table.proofs.Turns.{Turns, step-turns}
+use Rattle.history.proofs.Begins.{base-live, base-detached, begins-after}
+use Rattle.history.proofs.Promises.{insert-new}
+use Rattle.history.proofs.Clock.{clock, clock-odd, clock-away, clock-free, clock-new}
+use Rattle.history.proofs.Turns.{Turns, step-turns}
 
 -- ---- the clock through a list of calls
 

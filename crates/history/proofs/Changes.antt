@@ -4,7 +4,7 @@ use mathlib.Core.Option.{Option, none, some}
 use Prim.Native.Nat.{ℕ}
 use lib.Dec.{eqb}
 use Rattle.keys.specs.Keys.{idx}
-use Rattle.table.specs.Reading.{Change, nothing, issued, returned, revalued, dies, parts, sieved}
+use Rattle.history.specs.Reading.{Change, nothing, issued, returned, revalued, dies, parts, sieved}
 
 -- a value stays, if the rule keeps the key's index and it
 abbrev pub sieve : (ℕ → ℕ → Bool) → ℕ → Option ℕ → Option ℕ

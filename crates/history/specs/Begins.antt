@@ -8,10 +8,10 @@ use Prim.Native.Nat.{ℕ}
 use Rattle.lists.specs.Among.{among}
 use Rattle.lists.specs.Once.{Once}
 use Rattle.keys.specs.Keys.{idx, version, asRead}
 use Rattle.table.specs.Table.{Table, link, val, isLive, dead, isDetached}
 use Rattle.table.specs.Calls.{Said, said-value, refused}
 use Rattle.table.specs.Sound.{Sound}
-use Rattle.table.specs.Reading.{Reading, valueIn, keysOf}
+use Rattle.history.specs.Reading.{Reading, valueIn, keysOf}
 
 -- ---- the table's side
 

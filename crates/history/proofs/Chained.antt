@@ -6,16 +6,16 @@ use Prim.Native.Nat.{ℕ}
 use lib.ListN.{length}
 use Rattle.lists.specs.Among.{among}
 use Rattle.keys.specs.Keys.{idx, version, asRead}
 use Rattle.table.specs.declared.Header.{Header}
 use Rattle.table.specs.Table.{Table, isDetached}
 use Rattle.table.specs.Calls.{said-count, begins, fresh, freshTable, len, lookup}
 use Rattle.table.specs.Steps.{History, after, history, Run, callsOf}
-use Rattle.table.specs.Reading.{Reading, blank, reading, valueIn}
-use Rattle.table.specs.Begins.{Begins, valueOr}
-use Rattle.table.proofs.Runs.{run-after}
-use Rattle.table.proofs.Begins.{fresh-begins, begins-after}
-use Rattle.table.proofs.Promises.{lookup-reads}
-use Rattle.table.proofs.Listed.{count-lives, len-lives}
+use Rattle.history.specs.Reading.{Reading, blank, reading, valueIn}
+use Rattle.history.specs.Begins.{Begins, valueOr}
+use Rattle.history.proofs.Runs.{run-after}
+use Rattle.history.proofs.Begins.{fresh-begins, begins-after}
+use Rattle.history.proofs.Promises.{lookup-reads}
+use Rattle.history.proofs.Listed.{count-lives, len-lives}
 
 module _ (t : Table) (base : Reading) (b : Begins t base) (h : History) (u : Table) (r : Run t h u) where
   pub run-begins : Begins u (reading base h)

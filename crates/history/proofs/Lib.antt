@@ -1,0 +1,14 @@
+pub mod Runs
+pub mod Changes
+pub mod Readings
+pub mod Follows
+pub mod Answers
+pub mod Begins
+pub mod Promises
+pub mod Clock
+pub mod Full
+pub mod Counted
+pub mod Turns
+pub mod Reissue
+pub mod Listed
+pub mod Chained
