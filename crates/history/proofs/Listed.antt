@@ -14,7 +14,6 @@ use Rattle.keys.specs.Keys.{idx, version}
 use Rattle.keys.proofs.Keys.{is-read}
 use Rattle.table.specs.Table.{Table, ver, link, key, val}
 use Rattle.table.specs.Calls.{said-count, said-truth, len, isEmpty, listedKeys, listedValues}
-use Rattle.table.specs.Sound.{Sound}
 use Rattle.table.specs.Steps.{Call, after, history}
 use Rattle.history.specs.Reading.{Reading, reading, valueIn, keysOf}
 use Rattle.history.specs.Begins.{Begins}

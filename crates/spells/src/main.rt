@@ -1,8 +1,10 @@
-// The spells of the rules that store, take out and write an image, through the real code. The remarks of standard input are the rules' own words, one before each spell.
+// The spells of the rules that print a key, write an image or rebuild one, through the real code. The remarks of standard input are the rules' own words, one
+// before each spell.
 use answers::Answer;
 use answers::KEY;
 use dense::Started;
 use dense::fresh;
+use image_read::rebuild;
 use image_write::write_image;
 use keys::KeyData;
 use libc::STDIN_FILENO;
@@ -32,8 +34,14 @@ fn spells(text: &[u8]) {
     let c = remark(text, b);
     tell(Answer::of(KEY, KeyData::null().as_ffi()));
     tell(Answer::of(KEY, KeyData::new(4294967295, 3).as_ffi()));
-    remark(text, c);
-    wraps();
+    let d = remark(text, c);
+    threads();
+    let e = remark(text, d);
+    rebuilt(&[0x01, 0x02, 0x01, 0x05]);
+    let f = remark(text, e);
+    rebuilt(&[0x00]);
+    remark(text, f);
+    rebuilt(&[0x01, 0x80, 0x00, 0x00]);
 }
 
 // The image of a table, as a line.
@@ -74,16 +82,28 @@ fn two(text: &[u8]) -> usize {
     d
 }
 
-fn wraps() {
-    let h = Header { n: 1, s: 2, f: 2 };
-    let last = KeyData::new(1, 4294967295).as_ffi();
-    let mut versions = [0u32, 4294967295];
-    let mut links = [0u32, 0];
-    let mut keys = [last];
-    let mut values = [5u64];
-    let a = told(remove(h, &mut versions, &mut links, &mut keys, &mut values, last));
-    show_words(&versions);
-    told(insert(a, &mut versions, &mut links, &mut keys, &mut values, 6));
+fn threads() {
+    let mut versions = [9u32; 3];
+    let mut links = [9u32; 3];
+    let mut keys = [9u64; 2];
+    let mut values = [9u64; 2];
+    let bytes = [0x03u8, 0x00, 0x00, 0x02, 0x00, 0x04, 0x00];
+    match rebuild(&mut versions, &mut links, &mut keys, &mut values, &bytes) {
+        Started::With(h) => {
+            tell(Answer::header(h));
+            let made = insert(h, &mut versions, &mut links, &mut keys, &mut values, 7);
+            tell(made.answer);
+        }
+        Started::Refused(why) => tell(Answer::refused(why)),
+    }
+}
+
+fn rebuilt(bytes: &[u8]) {
+    let mut versions = [9u32; 3];
+    let mut links = [9u32; 3];
+    let mut keys = [9u64; 2];
+    let mut values = [9u64; 2];
+    begun(rebuild(&mut versions, &mut links, &mut keys, &mut values, bytes));
 }
 
 // ---- what the program prints
@@ -114,12 +134,6 @@ fn begun(answer: Started) {
 fn show_hexes(list: &[u8]) {
     let mut text = [0u8; 80];
     let end = lines::hexes(list, 0, &mut text);
-    io::write_all(STDOUT_FILENO, first(&text, end));
-}
-
-fn show_words(list: &[u32]) {
-    let mut text = [0u8; 80];
-    let end = lines::words(list, 0, &mut text);
     io::write_all(STDOUT_FILENO, first(&text, end));
 }
 
