@@ -1,6 +1,6 @@
 -- `dense_disjoint::disjoint` meets its contract: the marks are undone, and the first key without a place is the first that is refused. Assumes nothing.
-use mathlib.Core.Path.{sym, ap, _∙_}
-use borrow.Author.Needs.{needs}
+use mathlib.Core.Path.{refl, sym, ap, _∙_}
+use borrow.Author.Needs.{scaled-fits}
 use native.Mathlib.Omega.{arith}
 use lib.ListN.{length-take}
 use Rattle.lists.proofs.Tests.{refuted, confirmed}
@@ -62,24 +62,24 @@ pub disjoint-spec : {M : Type 1} → statement M
 disjoint-spec =
     tie.close
     (tie.spec
-    (λ c κs. search needs)
-    (λ c. search needs)
+    (λ c κs. tt)
+    (λ c. refl)
     returns
     mark-placed-requires
     slice-aggregate-mark-all
-    (λ c κs. search needs)
-    (λ c. search needs)
-    (λ c. search needs)
-    (λ c κs. search needs)
-    (λ c. search needs)
-    (λ c. search needs)
-    (λ c. search needs)
+    (λ c κs. tt)
+    (λ c. scaled-fits _ _ 8 (c .before .if2 .taken) (c .before .before .before .before .before .before .before .before .before .before .before .before .before .before .before .before .before .before .before .before .good .1 .1 .1 .1 .1 .0 .1))
+    (λ c. c .before .before .if2 .taken)
+    (λ c κs. tt)
+    (λ c. c .match .keys1)
+    (λ c. c .match .keys2)
+    (λ c. c .before .before .before .before .before .before .before .before .mark-all .kept .0 ∙ c .before .before .before .before .before .before .before .before .before .before .before .before .before .mark-placed .kept .1 .0)
     returns-2
-    (λ c. search needs)
+    (λ c. c .before .before .before .before .before .before .before .before .before .mark-all .kept .0 ∙ c .before .before .before .before .before .before .before .before .before .before .before .before .before .before .mark-placed .kept .1 .0)
     returns-3
-    (λ c. search needs)
+    (λ c. c .before .before .before .before .mark-all .kept .0 ∙ c .before .before .before .before .before .before .before .before .before .mark-placed .kept .1 .0)
     returns-4
     write-places-requires
-    (λ c. search needs)
-    (λ c. search needs)
+    (λ c. c .before .before .before .before .before .before .before .before .mark-all .kept .0 ∙ c .before .before .before .before .before .before .before .before .before .before .before .before .before .mark-placed .kept .1 .0)
+    (λ c. c .before .before .write-places .kept .1 .1 .0)
     returns-5)

@@ -1,4 +1,5 @@
 -- `dense_enter::fill` meets its contract: the free head is taken, else a slot is added. Assumes nothing.
+use lib.ListN.{length-set}
 use borrow.Author.Needs.{needs}
 use Rattle.table.specs.Table.{entered}
 use Rattle.table.proofs.Storing.{insert-free, insert-grown}
@@ -33,10 +34,10 @@ fill-spec =
     (λ c. search needs)
     (λ c. search needs)
     (λ c. search needs)
-    (λ c. search needs)
-    (λ c. search needs)
-    (λ c. search needs)
-    (λ c. search needs)
+    (λ c. length-set (c .before .before .before .before .before .before .before .before .before .before .before .before .args .versions .now) _ _)
+    (λ c. length-set (c .before .before .before .before .before .before .before .before .before .before .before .before .args .links .now) _ _)
+    (λ c. length-set (c .before .before .before .before .before .before .before .before .before .before .before .before .args .keys .now) _ _)
+    (λ c. length-set (c .before .before .before .before .before .before .before .before .before .before .before .before .args .values .now) _ _)
     returns
     (λ c. search needs)
     (λ c. search needs)
@@ -46,8 +47,8 @@ fill-spec =
     (λ c. search needs)
     (λ c. search needs)
     (λ c. search needs)
-    (λ c. search needs)
-    (λ c. search needs)
-    (λ c. search needs)
-    (λ c. search needs)
+    (λ c. length-set (c .before .before .before .before .before .before .before .before .before .before .before .args .versions .now) _ _)
+    (λ c. length-set (c .before .before .before .before .before .before .before .before .before .before .before .args .links .now) _ _)
+    (λ c. length-set (c .before .before .before .before .before .before .before .before .before .before .before .args .keys .now) _ _)
+    (λ c. length-set (c .before .before .before .before .before .before .before .before .before .before .before .args .values .now) _ _)
     returns-2)

@@ -1,4 +1,5 @@
 -- `dense_enter::insert` meets its contract. Assumes nothing.
+use mathlib.Core.Path.{refl}
 use borrow.Author.Needs.{needs}
 use Rattle.table.specs.Calls.{insert}
 use Rattle.table.proofs.Judged.{roomy}
@@ -25,13 +26,13 @@ insert-spec =
     (λ c. search needs)
     fill-requires
     (λ c. search needs)
-    (λ c. search needs)
-    (λ c. search needs)
-    (λ c. search needs)
-    (λ c. search needs)
+    (λ c. c .before .before .before .before .before .before .before .before .fill .kept .1 .0)
+    (λ c. c .before .before .before .before .before .before .before .before .fill .kept .1 .1 .0)
+    (λ c. c .before .before .before .before .before .before .before .before .fill .kept .1 .1 .1 .0)
+    (λ c. c .before .before .before .before .before .before .before .before .fill .kept .1 .1 .1 .1 .0)
     returns
-    (λ c. search needs)
-    (λ c. search needs)
-    (λ c. search needs)
-    (λ c. search needs)
+    (λ c. refl)
+    (λ c. refl)
+    (λ c. refl)
+    (λ c. refl)
     returns-2)

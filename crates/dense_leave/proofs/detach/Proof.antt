@@ -13,8 +13,8 @@ detach-spec =
     tie.close
     (tie.spec
     (λ c κs. search needs)
-    (λ c. search needs)
-    (λ c. search needs)
-    (λ c. search needs)
-    (λ c. search needs)
+    (λ c. c .before .before .before .before .before .before .before .before .take .kept .1 .0)
+    (λ c. c .before .before .before .before .before .before .before .before .take .kept .1 .1 .0)
+    (λ c. c .before .before .before .before .before .before .before .before .take .kept .1 .1 .1 .0)
+    (λ c. c .before .before .before .before .before .before .before .before .take .kept .1 .1 .1 .1 .0)
     returns)

@@ -26,7 +26,7 @@ loop-holds c =
     (omega arith, c .encoded-len .ensures ∙ sym (ap length (so-far-none _)), omega arith)
 
 slot-record-requires : tie.Need-slot-record-requires Inv-loop μ-loop
-slot-record-requires c κs = (c .before .before .before .before .before .before .before .before .before .pre, omega arith)
+slot-record-requires c κs = (c .before .before .before .before .before .before .before .before .before .pre, c .if1 .taken)
 
 -- a slot's bytes
 few : (c : tie.After-record-len Inv-loop μ-loop) → c .record-len .result ≤ 16
@@ -39,7 +39,7 @@ loop-again : tie.Need-loop-again Inv-loop μ-loop
 loop-again c =
     let l = c .before .before .before .before .loop in
     let t = table (c .before .before .before .before .before .before .before .before .before .before .before .args .versions .now) (c .before .before .before .before .before .before .before .before .before .before .before .args .links .now) (c .before .before .before .before .before .before .before .before .before .before .before .args .keys .now) (c .before .before .before .before .before .before .before .before .before .before .before .args .values .now) (c .before .before .before .before .before .before .before .before .before .before .before .args .h) in
-    (omega arith, omega (arith, l .inv .1, c .record-len .ensures, so-far-longer t (l .i) (c .before .slot-record .ensures .0)), omega (arith, few c))
+    (omega (arith, c .before .before .if1 .taken), omega (arith, l .inv .1, c .record-len .ensures, so-far-longer t (l .i) (c .before .slot-record .ensures .0)), omega (arith, few c))
 
 returns : tie.Need-returns Inv-loop μ-loop
 returns c =
@@ -61,6 +61,6 @@ bytes-in-spec =
     (λ c κs. search needs)
     add-total
     (λ c. search needs)
-    (λ c. search needs)
+    (λ c. omega (arith, c .before .before .if1 .taken))
     loop-again
     returns)

@@ -24,15 +24,15 @@ loop-holds : tie.Need-loop-holds Inv-loop μ-loop
 loop-holds c = (omega arith, λ b h f. f)
 
 slot-record-requires : tie.Need-slot-record-requires Inv-loop μ-loop
-slot-record-requires c κs = (c .before .before .before .before .before .before .before .before .before .before .before .before .before .before .pre .0, omega arith)
+slot-record-requires c κs = (c .before .before .before .before .before .before .before .before .before .before .before .before .before .before .pre .0, c .if1 .taken)
 
 loop-again : tie.Need-loop-again Inv-loop μ-loop
 loop-again c =
     let t = table (c .before .before .before .before .before .before .before .before .before .before .before .before .before .before .before .before .before .before .before .before .args .versions .now) (c .before .before .before .before .before .before .before .before .before .before .before .before .before .before .before .before .before .before .before .before .args .links .now) (c .before .before .before .before .before .before .before .before .before .before .before .before .before .before .before .before .before .before .before .before .args .keys .now) (c .before .before .before .before .before .before .before .before .before .before .before .before .before .before .before .before .before .before .before .before .args .values .now) (c .before .before .before .before .before .before .before .before .before .before .before .before .before .before .before .before .before .before .before .before .args .h) in (
-      omega arith,
+      omega (arith, c .before .before .before .before .before .before .if1 .taken),
       λ b h f.
           let l = c .before .before .before .before .before .before .before .before .loop in
-          front-more t b h (l .i) (omega arith) (l .inv .1 b h f) _ (c .before .before .before .before .before .slot-record .ensures .0) (c .before .before .before .write-record .ensures) (c .place-after2 .ensures),
+          front-more t b h (l .i) (c .before .before .before .before .before .before .if1 .taken) (l .inv .1 b h f) _ (c .before .before .before .before .before .slot-record .ensures .0) (c .before .before .before .write-record .ensures) (c .place-after2 .ensures),
     )
 
 -- what stands there where the loop is reached
@@ -43,7 +43,7 @@ same-length : tie.Need-same-length Inv-loop μ-loop
 same-length c = front-length _ _ (c .before .before .before .before .before .before .before .before .before .before .before .before .before .before .pre .1) (c .before .before .loop .inv .0) (there (c .before .before))
 
 returns : tie.Need-returns Inv-loop μ-loop
-returns c = front-all _ _ (c .before .before .before .before .before .before .before .before .before .before .before .before .before .before .pre .1) (omega arith) (there (c .before .before))
+returns c = front-all _ _ (c .before .before .before .before .before .before .before .before .before .before .before .before .before .before .pre .1) (omega (arith, c .before .before .loop .inv .0, c .if1 .left)) (there (c .before .before))
 
 pub put-image-spec : {M : Type 1} → statement M
 put-image-spec =
@@ -59,7 +59,7 @@ put-image-spec =
     (λ c κs. search needs)
     (λ c κs. search needs)
     (λ c. search needs)
-    (λ c. search needs)
+    (λ c. omega (arith, c .before .before .before .before .before .before .if1 .taken))
     loop-again
     same-length
     returns)

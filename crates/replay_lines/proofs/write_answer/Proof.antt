@@ -1,4 +1,5 @@
 -- `write_answer` writes the text and its newline; a line of places has its own. Assumes nothing.
+use mathlib.Core.Path.{refl, _∙_}
 use mathlib.Core.List.{[], _∷_}
 use borrow.Author.Needs.{needs}
 use borrow.Author.Tests.{eq-eqb, ne-eqb}
@@ -21,4 +22,17 @@ unfolding lineOf
 returns-3 c = rw (ne-eqb _ 255 (c .before .before .before .before .before .before .before .before .before .before .before .if1 .left), ne-eqb _ 6 (c .before .before .before .before .before .before .before .before .before .if2 .left)) (wroteAll-then _ _ _ (textOf (c .before .before .before .before .before .before .before .before .before .before .before .before .before .before .before .args .answer)) (newline ∷ []) (c .before .before .before .before .before .before .before .write-text .ensures) (c .before .before .bytes .ensures))
 
 pub write-answer-spec : {M : Type 1} → statement M
-write-answer-spec = tie.close (tie.spec returns (λ c. search needs) (λ c κs. search needs) (λ c κs. search needs) (λ c. search needs) returns-2 (λ c κs. search needs) (λ c. search needs) (λ c κs. search needs) (λ c. search needs) returns-3)
+write-answer-spec =
+    tie.close
+    (tie.spec
+    returns
+    (λ c. refl)
+    (λ c κs. search needs)
+    (λ c κs. search needs)
+    (λ c. c .before .before .named-words .kept .1 .1 .1 .0)
+    returns-2
+    (λ c κs. search needs)
+    (λ c. refl)
+    (λ c κs. search needs)
+    (λ c. c .before .before .bytes .kept .1 .1 .0 ∙ c .before .before .before .before .before .before .before .write-text .kept .1 .0)
+    returns-3)

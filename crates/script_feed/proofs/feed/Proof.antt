@@ -62,15 +62,15 @@ feed-spec =
     (λ c κs. search needs)
     returns
     loop-holds
-    (λ c. search needs)
+    (λ c. c .before .before .before .before .before .before .loop-test .taken)
     take-byte-requires
     add-i
-    (λ c. search needs)
+    (λ c. omega (arith, c .before .before .before .before .before .before .before .before .before .before .before .before .before .before .before .before .before .before .before .before .before .loop-test .taken))
     loop-again
-    (λ c. search needs)
-    (λ c. search needs)
-    (λ c. search needs)
-    (λ c. search needs)
-    (λ c. search needs)
-    (λ c. search needs)
+    (λ c. c .before .loop .inv .0)
+    (λ c. c .before .loop .inv .1)
+    (λ c. c .before .loop .inv .2)
+    (λ c. c .before .loop .inv .3)
+    (λ c. c .before .loop .inv .4)
+    (λ c. c .before .loop .inv .5)
     returns-2)

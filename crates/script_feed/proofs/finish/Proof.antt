@@ -29,9 +29,9 @@ finish-spec =
     returns
     returns-2
     close-requires
-    (λ c. search needs)
-    (λ c. search needs)
-    (λ c. search needs)
-    (λ c. search needs)
-    (λ c. search needs)
+    (λ c. c .before .before .before .before .before .before .before .before .before .before .before .close .kept .1 .0)
+    (λ c. c .before .before .before .before .before .before .before .before .before .before .before .close .kept .1 .1 .0)
+    (λ c. c .before .before .before .before .before .before .before .before .before .before .before .close .kept .1 .1 .1 .0)
+    (λ c. c .before .before .before .before .before .before .before .before .before .before .before .close .kept .1 .1 .1 .1 .0)
+    (λ c. c .before .before .before .before .before .before .before .before .before .before .before .close .kept .1 .1 .1 .1 .1 .1 .1 .1 .0)
     returns-3)

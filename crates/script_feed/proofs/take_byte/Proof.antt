@@ -1,5 +1,5 @@
 -- `take_byte` runs the line at a newline and holds any other byte. Assumes nothing.
-use mathlib.Core.Path.{_∙_}
+use mathlib.Core.Path.{refl, _∙_}
 use native.Mathlib.Omega.{arith}
 use borrow.Author.Needs.{needs}
 use Rattle.script_input.proofs.Steps.{took-newline, took-held, took-past}
@@ -21,15 +21,15 @@ pub take-byte-spec : {M : Type 1} → statement M
 take-byte-spec =
     tie.close
     (tie.spec
-    (λ c κs. search needs)
-    (λ c. search needs)
-    (λ c. search needs)
-    (λ c. search needs)
-    (λ c. search needs)
-    (λ c. search needs)
-    (λ c. search needs)
+    (λ c κs. c .before .before .before .before .before .before .before .before .before .before .before .before .before .pre)
+    (λ c. c .before .before .before .before .before .before .before .before .before .before .close .kept .1 .0)
+    (λ c. c .before .before .before .before .before .before .before .before .before .before .close .kept .1 .1 .0)
+    (λ c. c .before .before .before .before .before .before .before .before .before .before .close .kept .1 .1 .1 .0)
+    (λ c. c .before .before .before .before .before .before .before .before .before .before .close .kept .1 .1 .1 .1 .0)
+    (λ c. refl)
+    (λ c. c .before .before .before .before .before .before .before .before .before .before .close .kept .1 .1 .1 .1 .1 .1 .1 .1 .0)
     returns
-    (λ c. search needs)
+    (λ c. omega (arith, c .if2 .taken, c .before .before .before .before .before .before .before .before .pre .long))
     (λ c. search needs)
     (λ c. search needs)
     returns-2
