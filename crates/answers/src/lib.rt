@@ -50,7 +50,7 @@ pub const HEADER: u64 = 16;
 // The header s, count of a secondary map.
 pub const MAP_HEADER: u64 = 17;
 
-#[derive(Drop)]
+#[derive(Clone, Copy)]
 pub struct Answer {
     pub kind: u64,
     pub a: u64,

@@ -16,7 +16,7 @@ const MOST_32: u64 = 0xffff_ffff;
 const MOST_64: u64 = 0xffff_ffff_ffff_ffff;
 
 // What a line asks for. A key is the number of its index and version, as they stand in the line.
-#[derive(Drop)]
+#[derive(Clone, Copy)]
 pub enum Command {
     Insert(u64),
     Get(u64),

@@ -18,63 +18,63 @@ pub const LIMIT: usize = 4096;
 pub const DETACHED: u32 = 0xffff_ffff;
 
 // How a table begins.
-#[derive(Drop)]
+#[derive(Clone, Copy)]
 pub enum Started {
     With(Header),
     Refused(Refusal),
 }
 
 // The place of a live key.
-#[derive(Drop)]
+#[derive(Clone, Copy)]
 pub enum Placed {
     At(usize),
     Refused(Refusal),
 }
 
 // The value of a key.
-#[derive(Drop)]
+#[derive(Clone, Copy)]
 pub enum Found {
     Value(u64),
     Refused(Refusal),
 }
 
 // The key that an insert issues.
-#[derive(Drop)]
+#[derive(Clone, Copy)]
 pub enum Issued {
     Key(u64),
     Refused(Refusal),
 }
 
 // How many elements there are.
-#[derive(Drop)]
+#[derive(Clone, Copy)]
 pub enum Counted {
     Count(u32),
     Refused(Refusal),
 }
 
 // A yes or a no.
-#[derive(Drop)]
+#[derive(Clone, Copy)]
 pub enum Tested {
     Truth(bool),
     Refused(Refusal),
 }
 
 // A slot that a judgement found.
-#[derive(Drop)]
+#[derive(Clone, Copy)]
 pub enum Slot {
     At(usize),
     Refused(Refusal),
 }
 
 // Done, or the refusal.
-#[derive(Drop)]
+#[derive(Clone, Copy)]
 pub enum Verdict {
     Done,
     Refused(Refusal),
 }
 
 // The header after a call that answers nothing else.
-#[derive(Drop)]
+#[derive(Clone, Copy)]
 pub struct Changed {
     pub header: Header,
     pub answer: Verdict,

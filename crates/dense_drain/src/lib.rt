@@ -13,14 +13,14 @@ use refusal::Refusal;
 use table::Header;
 
 // What a drain step takes; done where nothing is left.
-#[derive(Drop)]
+#[derive(Clone, Copy)]
 pub enum Drained {
     Took { key: u64, value: u64 },
     Done,
     Refused(Refusal),
 }
 
-#[derive(Drop)]
+#[derive(Clone, Copy)]
 pub struct Stepped {
     pub header: Header,
     pub answer: Drained,

@@ -10,7 +10,7 @@ use dense_next::next_key;
 use keys::odd_version;
 use table::Header;
 
-#[derive(Drop)]
+#[derive(Clone, Copy)]
 pub struct Inserted {
     pub header: Header,
     pub answer: Issued,

@@ -14,7 +14,7 @@ use keys::{KeyData, version_up};
 use refusal::Refusal;
 use table::Header;
 
-#[derive(Drop)]
+#[derive(Clone, Copy)]
 pub struct Removed {
     pub header: Header,
     pub answer: Found,

@@ -4,7 +4,7 @@ ghost use Rattle.text.specs.Text.{digit_of};
 ghost use Rattle.fields.specs.Fields.{number_at, field_at};
 
 // What stands at a place of a line: a number and the place after it, or none.
-#[derive(Drop)]
+#[derive(Clone, Copy)]
 pub enum Number {
     Is(u64, usize),
     Wrong,

@@ -13,7 +13,7 @@ use writing::Written;
 const LONGEST: u8 = 32;
 
 // A line so far: how many bytes its image has, the first half of the next one, and whether it is a remark.
-#[derive(Drop)]
+#[derive(Clone, Copy)]
 struct Line {
     len: u8,
     half: u8,

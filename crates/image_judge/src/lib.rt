@@ -9,7 +9,7 @@ use refusal::Refusal;
 use summaries::{Judged, judge_records};
 
 // How many slots an image has, and how many of them are occupied.
-#[derive(Drop)]
+#[derive(Clone, Copy)]
 pub enum Counts {
     Slots { count: u32, live: u32 },
     Refused(Refusal),

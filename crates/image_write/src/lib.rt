@@ -18,7 +18,7 @@ use table::Header;
 use writing::Written;
 
 // How many bytes an image has.
-#[derive(Drop)]
+#[derive(Clone, Copy)]
 pub enum Length {
     Bytes(usize),
     Refused(Refusal),

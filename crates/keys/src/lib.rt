@@ -4,7 +4,7 @@
 ghost use Rattle.std.specs.Prelude.{◌≡◌, ◌%◌, ◌==◌};
 ghost use Rattle.keys.specs.Keys.{vsn, odd, up, down, key_of, number_of, null_key, is_null, made};
 
-#[derive(Drop)]
+#[derive(Clone, Copy)]
 pub struct KeyData {
     pub idx: u32,
     pub version: u32,

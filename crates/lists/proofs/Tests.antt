@@ -1,13 +1,13 @@
 -- Tests as facts: a Bool and what it says. Assumes nothing.
 use mathlib.Core.Path.{◌≡◌, refl, sym, ap, ◌∙◌}
-use mathlib.Core.Bool.{Bool, true, false, cond, not, ◌&&◌}
+use mathlib.Core.Bool.{Bool, true, false, cond, ◌&&◌}
 use mathlib.Core.Logic.{◌⊎◌, inl, inr}
 use mathlib.Core.List.{[], ◌∷◌, ◌++◌}
 use mathlib.Core.Option.{Option, none, some}
 use Prim.Native.Nat.{ℕ, ◌≤◌, ◌<◌}
 use native.Mathlib.Omega.{arith}
 use lib.Dec.{ltb}
-use borrow.Author.Tests.{ltb-true, ltb-false, leb-true, eqb-true, lt-ltb, le-ltb, le-leb, lt-leb, eq-eqb, ne_eqb, not-true, not-false}
+use borrow.Author.Tests.{ltb-true, ltb-false, leb-true, eqb-true, lt-ltb, le-ltb, le-leb, lt-leb, eq-eqb, ne_eqb}
 use Rattle.lists.specs.Tests.{Tests, first}
 
 -- ---- rulesets: from facts to the tests of a definition, and from a computed `&&` to facts
@@ -61,11 +61,11 @@ lt_or_le a b = split (ltb a b) (λ e. inl (ltb-true a b e)) (λ e. inr (ltb-fals
 
 -- ---- what the code's `if !f(..)` tells of what f's contract says its answer is
 
-pub refuted : {r b : Bool} → r ≡ b → not r ≡ true → b ≡ false
-refuted {r} e h = sym e ∙ not-true r h
+pub refuted : {r b : Bool} → r ≡ b → r ≡ false → b ≡ false
+refuted e h = sym e ∙ h
 
-pub confirmed : {r b : Bool} → r ≡ b → not r ≡ false → b ≡ true
-confirmed {r} e h = sym e ∙ not-false r h
+pub confirmed : {r b : Bool} → r ≡ b → r ≡ true → b ≡ true
+confirmed e h = sym e ∙ h
 
 -- ---- tests in order
 

@@ -10,7 +10,7 @@ use answers::Answer;
 use dense::Started;
 use table::Header;
 
-#[derive(Drop)]
+#[derive(Clone, Copy)]
 pub struct Made {
     pub header: Header,
     pub answer: Answer,

@@ -9,7 +9,7 @@ use made::Made;
 use rules::Rule;
 use table::Header;
 
-#[derive(Drop)]
+#[derive(Clone, Copy)]
 pub enum Call {
     Insert(u64),
     Put { key: u64, value: u64 },

@@ -2,7 +2,7 @@
 // The only code is the header that the calls take and give back.
 
 // The two numbers of a map: slots and elements.
-#[derive(Drop)]
+#[derive(Clone, Copy)]
 pub struct MapHeader {
     pub s: u32,
     pub count: u32,

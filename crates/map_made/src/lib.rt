@@ -12,7 +12,7 @@ use map::MapHeader;
 use rules::Rule;
 use secondary_put::Begun;
 
-#[derive(Drop)]
+#[derive(Clone, Copy)]
 pub struct Made {
     pub header: MapHeader,
     pub answer: Answer,

@@ -6,14 +6,14 @@ ghost use Rattle.numbers.specs.Numbers.{step_of, take_of};
 use refusal::Refusal;
 
 // The groups of a number that have been read: their value, and how many they are.
-#[derive(Drop)]
+#[derive(Clone, Copy)]
 pub struct Partial {
     pub value: u64,
     pub groups: u32,
 }
 
 // What the next byte makes of them.
-#[derive(Drop)]
+#[derive(Clone, Copy)]
 pub enum Taken {
     // The number goes on.
     More(Partial),

@@ -7,7 +7,7 @@ use numbers::{Partial, Taken, take_byte};
 use refusal::Refusal;
 
 // What reading a number finds.
-#[derive(Drop)]
+#[derive(Clone, Copy)]
 pub enum Number {
     // Its value and the place after it.
     Read { value: u64, next: usize },

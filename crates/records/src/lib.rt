@@ -8,14 +8,14 @@ use refusal::Refusal;
 use writing::Written;
 
 // A slot as an image has it: vacant, or occupied by a value.
-#[derive(Drop)]
+#[derive(Clone, Copy)]
 pub enum Record {
     Vacant { version: u32 },
     Occupied { version: u32, value: u64 },
 }
 
 // What reading a record finds.
-#[derive(Drop)]
+#[derive(Clone, Copy)]
 pub enum RecordRead {
     // The record and the place after it.
     Read { slot: Record, next: usize },

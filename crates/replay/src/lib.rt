@@ -8,7 +8,7 @@ use rules::Rule;
 // ---- lines
 
 // A line so far: its letter and its last three numbers, the last being c.
-#[derive(Drop)]
+#[derive(Clone, Copy)]
 pub struct Line {
     pub op: u8,
     pub a: u64,

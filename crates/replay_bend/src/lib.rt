@@ -7,7 +7,7 @@ use replay::{Line, narrow};
 use table::Header;
 
 // How much of each array is lent.
-#[derive(Drop)]
+#[derive(Clone, Copy)]
 pub struct Lent {
     pub versions: usize,
     pub links: usize,

@@ -2,7 +2,7 @@
 ghost use Rattle.std.specs.Prelude.{◌≡◌};
 ghost use Rattle.rules.specs.Rules.{keeps_of};
 
-#[derive(Drop)]
+#[derive(Clone, Copy)]
 pub enum Rule {
     // The value is from lo to hi.
     Values { lo: u64, hi: u64 },

@@ -16,7 +16,7 @@ use writing::{Written, has_room};
 pub const CAPACITY: usize = 1000;
 
 // The header after a line, and where the text of its answer ends.
-#[derive(Drop)]
+#[derive(Clone, Copy)]
 pub struct Ran {
     pub header: Header,
     pub end: Written,

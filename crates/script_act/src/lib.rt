@@ -15,7 +15,7 @@ use script_look::{Answer, look};
 use table::Header;
 
 // The header after a command, and its answer.
-#[derive(Drop)]
+#[derive(Clone, Copy)]
 pub struct Acted {
     pub header: Header,
     pub answer: Answer,

@@ -16,7 +16,7 @@ use writing::Written;
 const NEWLINE: u8 = b'\n';
 
 // The header, how many bytes of the next line are held, and where the printed text ends.
-#[derive(Drop)]
+#[derive(Clone, Copy)]
 pub struct Fed {
     pub header: Header,
     pub count: usize,
@@ -24,7 +24,7 @@ pub struct Fed {
 }
 
 // The same where there is room.
-#[derive(Drop)]
+#[derive(Clone, Copy)]
 struct Step {
     header: Header,
     count: usize,

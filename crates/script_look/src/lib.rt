@@ -11,7 +11,7 @@ use refusal::Refusal;
 use table::Header;
 
 // What a command answers.
-#[derive(Drop)]
+#[derive(Clone, Copy)]
 pub enum Answer {
     Key(u64),
     Value(u64),

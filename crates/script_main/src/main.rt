@@ -17,7 +17,7 @@ const PART: usize = 4096;
 const OUTPUT: usize = PART * ROOM;
 
 // What goes from read to read, and whether to go on.
-#[derive(Drop)]
+#[derive(Clone, Copy)]
 struct Now {
     header: Header,
     count: usize,

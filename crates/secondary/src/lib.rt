@@ -13,34 +13,34 @@ const LIMIT: usize = 4097;
 
 // ---- answers
 
-#[derive(Drop)]
+#[derive(Clone, Copy)]
 pub enum Length {
     Count(u32),
     Refused(Refusal),
 }
 
-#[derive(Drop)]
+#[derive(Clone, Copy)]
 pub enum Truth {
     Is(bool),
     Refused(Refusal),
 }
 
 // The slot of a key.
-#[derive(Drop)]
+#[derive(Clone, Copy)]
 pub enum Found {
     At(usize),
     Refused(Refusal),
 }
 
 // The value of a key.
-#[derive(Drop)]
+#[derive(Clone, Copy)]
 pub enum Got {
     Value(u64),
     Refused(Refusal),
 }
 
 // An element's key and value, and the place after it.
-#[derive(Drop)]
+#[derive(Clone, Copy)]
 pub enum Step {
     Element { key: u64, value: u64, next: u32 },
     Done,

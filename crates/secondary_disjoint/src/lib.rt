@@ -20,7 +20,7 @@ use secondary_sweep::Swept;
 const MARK: u32 = 2;
 
 // Whether all keys were marked; or how many were before the first that is not there.
-#[derive(Drop)]
+#[derive(Clone, Copy)]
 enum Marked {
     All,
     Stopped(usize, Refusal),

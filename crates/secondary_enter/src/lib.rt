@@ -11,7 +11,7 @@ use map::MapHeader;
 use refusal::Refusal;
 use secondary_judge::{Fate, judge_insert};
 
-#[derive(Drop)]
+#[derive(Clone, Copy)]
 pub enum Inserted {
     // The key is null.
     Ignored,
@@ -23,7 +23,7 @@ pub enum Inserted {
     Refused(Refusal),
 }
 
-#[derive(Drop)]
+#[derive(Clone, Copy)]
 pub struct Insertion {
     pub header: MapHeader,
     pub answer: Inserted,

@@ -10,7 +10,7 @@ use map::MapHeader;
 use refusal::Refusal;
 
 // What an insert comes to. Storing leaves so many elements.
-#[derive(Drop)]
+#[derive(Clone, Copy)]
 pub enum Fate {
     Ignores,
     Replaces,

@@ -11,7 +11,7 @@ use secondary::{Found, Got, Step};
 
 // ---- remove
 
-#[derive(Drop)]
+#[derive(Clone, Copy)]
 pub struct Removal {
     pub header: MapHeader,
     pub answer: Got,
@@ -65,7 +65,7 @@ pub fn remove(h: MapHeader, versions: &mut [u32], values: &[u64], k: u64) -> Rem
 
 // ---- drain step
 
-#[derive(Drop)]
+#[derive(Clone, Copy)]
 pub struct Drained {
     pub header: MapHeader,
     pub answer: Step,

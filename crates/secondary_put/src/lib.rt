@@ -8,7 +8,7 @@ use map::MapHeader;
 use refusal::Refusal;
 use secondary::{Found, Got};
 
-#[derive(Drop)]
+#[derive(Clone, Copy)]
 pub enum Begun {
     Header(MapHeader),
     Refused(Refusal),

@@ -12,13 +12,13 @@ use refusal::Refusal;
 use rules::Rule;
 use secondary::Step;
 
-#[derive(Drop)]
+#[derive(Clone, Copy)]
 pub enum Swept {
     Done,
     Refused(Refusal),
 }
 
-#[derive(Drop)]
+#[derive(Clone, Copy)]
 pub struct Sweep {
     pub header: MapHeader,
     pub answer: Swept,

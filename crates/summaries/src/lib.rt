@@ -26,7 +26,7 @@ pub fn read_count(bytes: &[u8], most: usize) -> Number
 
 // What is kept of the records that have been read: how many they are, the first one's version and presence, and how many of the
 // others are occupied and how many contradict themselves.
-#[derive(Drop)]
+#[derive(Clone, Copy)]
 pub struct Summary {
     pub count: u32,
     pub version: u32,
@@ -84,7 +84,7 @@ pub fn judge_record(summary: Summary, slot: Record) -> Summary
 }
 
 // What is to be said of an image's records.
-#[derive(Drop)]
+#[derive(Clone, Copy)]
 pub enum Judged {
     // The place of the first one, and what is kept of them all.
     Fine { from: usize, summary: Summary },

@@ -2,7 +2,7 @@
 // The only code is the header that the calls take and give back.
 
 // The three numbers of a table: elements, slots, and the slot that the next insert takes.
-#[derive(Drop)]
+#[derive(Clone, Copy)]
 pub struct Header {
     pub n: u32,
     pub s: u32,

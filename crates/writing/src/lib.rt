@@ -7,7 +7,7 @@ ghost use Rattle.writing.specs.Writing.{outcome, written};
 use refusal::Refusal;
 
 // What writing into a lent buffer answers.
-#[derive(Drop)]
+#[derive(Clone, Copy)]
 pub enum Written {
     // The place after what was written.
     End(usize),
