@@ -1,15 +1,15 @@
 -- `take_byte` meets its contract: the limit less the value, shifted right, is the largest byte that may stand there.
 use Prim.Native.Nat.{ℕ, ◌+◌, ◌-◌, ◌*◌, ◌/◌, ◌%◌, ◌^◌, ◌≤◌, ◌<◌}
 use mathlib.Core.Path.{◌≡◌, sym, ap, ◌∙◌}
-use mathlib.Core.Logic.{⊎_elim}
 use native.Mathlib.Nat.{div-lt_iff_lt-mul, le-div_iff_mul-le, mod-eq_of_lt, mul-le-mul_right}
 use native.Mathlib.Omega.{arith}
-use borrow.Author.Rules.{rules}
+use Rattle.std.proofs.Common.{rules}
 use lib.Pow.{pow_pos, pow_mono}
 use Rattle.writing.specs.Told.{tells, refused}
 use Rattle.numbers.specs.Numbers.{whole, more, worth, least, take_of}
 use Rattle.numbers.proofs.Numbers.{part, take-low, take-high, take_last, take_more, least_pos, least-none, least-some}
 use Rattle.numbers.proofs.take_byte.Goals as goal
+use Rattle.numbers.proofs.take_byte.Goals.{then-b-eq0+else-groups-gt0, else-b-eq0}
 
 module _ (limit v g b : ℕ) (l : least g ≤ b) where
   -- the groups of a number of 64 bits are ten at most
@@ -41,8 +41,6 @@ module _ (limit v g b : ℕ) (l : least g ≤ b) where
       goes : 128 ≤ b → tells (more (part (v + b % 128 * worth g % 2 ^ 64) (g + 1))) ≡ take_of limit (part v g) b
       goes k = rw (shifted (b % 128) (omega arith)) (sym (take_more limit v g b l within k))
 
--- after the test of a zero
-
 pub returns-then-groups-gt0 : goal.returns-then-groups-gt0
 returns-then-groups-gt0 c =
     let a = c.args in
@@ -51,50 +49,49 @@ returns-then-groups-gt0 c =
 pub returns-then-groups-gt9 : goal.returns-then-groups-gt9
 returns-then-groups-gt9 c =
     let a = c.args in
-    beyond a.limit a.state.value a.state.groups a.b ((let a = c.args in
-    ⊎_elim (λ w. least-none a.state.groups a.b w.1.left) (λ w. least-some a.state.groups a.b w.left) c.if-b-eq0.branch
-
--- after the call of `wide`, whose answer is the byte)) (search rules) (omega arith)
+    let low : least a.state.groups ≤ a.b = elim c.if-b-eq0.branch [ then-b-eq0+else-groups-gt0 w ↦ least-none a.state.groups a.b w.if-groups-gt0.false | else-b-eq0 w ↦ least-some a.state.groups a.b w.if-b-eq0.false ] in
+    beyond a.limit a.state.value a.state.groups a.b low (search rules) (omega arith)
 
 pub returns-then-limit-value : goal.returns-then-limit-value
 returns-then-limit-value c =
     let a = c.args in
-    above a.limit a.state.value a.state.groups a.b ((let a = c.args in
-    ⊎_elim (λ w. least-none a.state.groups a.b w.1.left) (λ w. least-some a.state.groups a.b w.left) c.if-b-eq0.branch
-
--- after the call of `wide`, whose answer is the byte)) c.if-limit-value.true
+    let low : least a.state.groups ≤ a.b = elim c.if-b-eq0.branch [ then-b-eq0+else-groups-gt0 w ↦ least-none a.state.groups a.b w.if-groups-gt0.false | else-b-eq0 w ↦ least-some a.state.groups a.b w.if-b-eq0.false ] in
+    above a.limit a.state.value a.state.groups a.b low c.if-limit-value.true
 
 pub returns-then-limit-value-2 : goal.returns-then-limit-value-2
 returns-then-limit-value-2 c =
     let a = c.args in
-    large a.limit a.state.value a.state.groups c.wide-group.result ((rw c.wide-group.ensures (not_low c.before.before.before)
-
--- the byte is small enough, so that the group of it that is (let a = c.args in
-    room a.limit a.state.value a.state.groups c.wide-group.result (not-low-wide c.before) (search rules) (search rules) c.if-limit-value-2.false not cut) and fits)) (search rules) (search rules) c.if-limit-value-2.true
+    let low : least a.state.groups ≤ a.b = elim c.if-b-eq0.branch [ then-b-eq0+else-groups-gt0 w ↦ least-none a.state.groups a.b w.if-groups-gt0.false | else-b-eq0 w ↦ least-some a.state.groups a.b w.if-b-eq0.false ] in
+    let low-wide : least a.state.groups ≤ c.wide-group.result = rw c.wide-group.ensures low in
+    large a.limit a.state.value a.state.groups c.wide-group.result low-wide (search rules) (search rules) c.if-limit-value-2.true
     ∙ ap (take_of a.limit a.state) c.wide-group.ensures
 
 pub overflow_add-result : goal.overflow_add-result
-overflow_add-result c = record { fits = (let a = c.args in
-    room a.limit a.state.value a.state.groups c.wide-group.result (not-low-wide c.before) (search rules) (search rules) c.if-limit-value-2.false c.wide-group.result (omega arith)) }
+overflow_add-result c =
+    let a = c.args in
+    let low : least a.state.groups ≤ a.b = elim c.if-b-eq0.branch [ then-b-eq0+else-groups-gt0 w ↦ least-none a.state.groups a.b w.if-groups-gt0.false | else-b-eq0 w ↦ least-some a.state.groups a.b w.if-b-eq0.false ] in
+    let low-wide : least a.state.groups ≤ c.wide-group.result = rw c.wide-group.ensures low in
+    record { fits = room a.limit a.state.value a.state.groups c.wide-group.result low-wide (search rules) (search rules) c.if-limit-value-2.false c.wide-group.result (omega arith) }
 
 pub returns-then-group-lt128 : goal.returns-then-group-lt128
 returns-then-group-lt128 c =
     let a = c.args in
-    ends a.limit a.state.value a.state.groups c.wide-group.result ((rw c.wide-group.ensures (not_low c.before.before.before)
-
--- the byte is small enough, so that the group of it that is (let a = c.args in
-    room a.limit a.state.value a.state.groups c.wide-group.result (not-low-wide c.before) (search rules) (search rules) c.if-limit-value-2.false not cut) and fits)) (search rules) (search rules) c.if-limit-value-2.false c.if-group-lt128.true
+    let low : least a.state.groups ≤ a.b = elim c.if-b-eq0.branch [ then-b-eq0+else-groups-gt0 w ↦ least-none a.state.groups a.b w.if-groups-gt0.false | else-b-eq0 w ↦ least-some a.state.groups a.b w.if-b-eq0.false ] in
+    let low-wide : least a.state.groups ≤ c.wide-group.result = rw c.wide-group.ensures low in
+    ends a.limit a.state.value a.state.groups c.wide-group.result low-wide (search rules) (search rules) c.if-limit-value-2.false c.if-group-lt128.true
     ∙ ap (take_of a.limit a.state) c.wide-group.ensures
 
 pub overflow_add-result-2 : goal.overflow_add-result-2
-overflow_add-result-2 c = record { fits = (let a = c.args in
-    room a.limit a.state.value a.state.groups c.wide-group.result (not-low-wide c.before) (search rules) (search rules) c.if-limit-value-2.false (c.wide-group.result % 128) (omega arith)) }
+overflow_add-result-2 c =
+    let a = c.args in
+    let low : least a.state.groups ≤ a.b = elim c.if-b-eq0.branch [ then-b-eq0+else-groups-gt0 w ↦ least-none a.state.groups a.b w.if-groups-gt0.false | else-b-eq0 w ↦ least-some a.state.groups a.b w.if-b-eq0.false ] in
+    let low-wide : least a.state.groups ≤ c.wide-group.result = rw c.wide-group.ensures low in
+    record { fits = room a.limit a.state.value a.state.groups c.wide-group.result low-wide (search rules) (search rules) c.if-limit-value-2.false (c.wide-group.result % 128) (omega arith) }
 
 pub returns : goal.returns
 returns c =
     let a = c.args in
-    goes a.limit a.state.value a.state.groups c.wide-group.result ((rw c.wide-group.ensures (not_low c.before.before.before)
-
--- the byte is small enough, so that the group of it that is (let a = c.args in
-    room a.limit a.state.value a.state.groups c.wide-group.result (not-low-wide c.before) (search rules) (search rules) c.if-limit-value-2.false not cut) and fits)) (search rules) (search rules) c.if-limit-value-2.false c.if-group-lt128.false
+    let low : least a.state.groups ≤ a.b = elim c.if-b-eq0.branch [ then-b-eq0+else-groups-gt0 w ↦ least-none a.state.groups a.b w.if-groups-gt0.false | else-b-eq0 w ↦ least-some a.state.groups a.b w.if-b-eq0.false ] in
+    let low-wide : least a.state.groups ≤ c.wide-group.result = rw c.wide-group.ensures low in
+    goes a.limit a.state.value a.state.groups c.wide-group.result low-wide (search rules) (search rules) c.if-limit-value-2.false c.if-group-lt128.false
     ∙ ap (take_of a.limit a.state) c.wide-group.ensures

@@ -1,0 +1,6 @@
+-- `bytes` hands back the place that `write_bytes` tells.
+use Rattle.pieces.proofs.Pieces.{wrote_by}
+use Rattle.pieces.proofs.bytes.Goals as goal
+
+pub returns : goal.returns
+returns c = wrote_by _ _ _ _ _ _ c.behind.ensures c.write_bytes.ensures

@@ -1,0 +1,6 @@
+-- `key` hands back the place that `write_key` tells of the key that the number names.
+use Rattle.pieces.proofs.Pieces.{wrote_by}
+use Rattle.pieces.proofs.key.Goals as goal
+
+pub returns : goal.returns
+returns c = wrote_by _ _ _ _ _ _ c.behind.ensures (rw c.from_ffi.ensures at c.write_key.ensures)
