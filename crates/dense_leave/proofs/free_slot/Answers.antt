@@ -1,0 +1,6 @@
+-- `dense_leave::free_slot` meets its contract.
+use mathlib.Core.Path.{refl}
+use Rattle.dense_leave.proofs.free_slot.Goals as goal
+
+pub returns : goal.returns
+returns c = (refl, (rw c.version_up.ensures, refl))
