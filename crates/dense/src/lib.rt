@@ -3,7 +3,7 @@ ghost use Rattle.std.specs.Prelude.{◌≡◌, List, ℕ};
 ghost use Rattle.refusal.specs.Refusals.{number_of};
 ghost use Rattle.table.specs.Table.{lengths_fit, has_shape, is_live, dead};
 ghost use Rattle.table.specs.Calls.{Begun, fresh, contains, place_in, place};
-ghost use Rattle.dense.specs.Lent.{table, before};
+ghost use Rattle.dense.specs.Lent.{table};
 ghost use Rattle.dense.specs.Answers.{judged_of, truth_said, begun_of};
 ghost use Rattle.table.proofs.Shape.{Shape};
 
@@ -99,7 +99,7 @@ pub fn lengths_fit(versions: &[u32], links: &[u32], keys: &[u64], values: &[u64]
 
 // Whether the shape holds. It looks at lengths and header only, so it takes the same time whatever the table holds.
 pub fn has_shape(h: Header, versions: &[u32], links: &[u32], keys: &[u64], values: &[u64]) -> bool
-    ensures { result ≡ has_shape (before versions links keys values h) }
+    ensures { result ≡ has_shape (table versions.now links.now keys.now values.now h) }
 {
     if !lengths_fit(versions, links, keys, values) {
         return false;
@@ -142,7 +142,7 @@ fn is_live(
     key: KeyData,
 ) -> bool
     requires { Shape (table versions.now links.now keys.now values.now h) }
-    ensures { result ≡ is_live (before versions links keys values h) key.idx key.version }
+    ensures { result ≡ is_live (table versions.now links.now keys.now values.now h) key.idx key.version }
 {
     let i = key.idx;
     if i < 1 {
@@ -164,7 +164,7 @@ fn dead(
     key: KeyData,
 ) -> Refusal
     requires { Shape (table versions.now links.now keys.now values.now h) }
-    ensures { number_of result ≡ dead (before versions links keys values h) key.idx key.version }
+    ensures { number_of result ≡ dead (table versions.now links.now keys.now values.now h) key.idx key.version }
 {
     Refusal::Dead
 }
@@ -179,7 +179,7 @@ fn place_in(
     key: KeyData,
 ) -> Placed
     requires { Shape (table versions.now links.now keys.now values.now h) }
-    ensures { judged_of result ≡ place_in (before versions links keys values h) key.idx key.version }
+    ensures { judged_of result ≡ place_in (table versions.now links.now keys.now values.now h) key.idx key.version }
 {
     if !is_live(h, versions, links, keys, values, key) {
         return Placed::Refused(dead(h, versions, links, keys, values, key));
@@ -204,7 +204,7 @@ pub fn place(
     values: &[u64],
     k: u64,
 ) -> Placed
-    ensures { judged_of result ≡ place (before versions links keys values h) k }
+    ensures { judged_of result ≡ place (table versions.now links.now keys.now values.now h) k }
 {
     if !has_shape(h, versions, links, keys, values) {
         return Placed::Refused(Refusal::Shape);
@@ -220,7 +220,7 @@ pub fn contains_key(
     values: &[u64],
     k: u64,
 ) -> Tested
-    ensures { truth_said result ≡ contains (before versions links keys values h) k }
+    ensures { truth_said result ≡ contains (table versions.now links.now keys.now values.now h) k }
 {
     if !has_shape(h, versions, links, keys, values) {
         return Tested::Refused(Refusal::Shape);

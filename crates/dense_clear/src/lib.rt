@@ -2,7 +2,7 @@
 ghost use Rattle.std.specs.Prelude.{◌≡◌};
 ghost use Rattle.table.specs.Sound.{Sound};
 ghost use Rattle.table.specs.Sweeps.{clearing, clear};
-ghost use Rattle.dense.specs.Lent.{table, before, after};
+ghost use Rattle.dense.specs.Lent.{table};
 ghost use Rattle.dense.specs.Answers.{outcome, done_said};
 
 use dense::{Changed, Verdict};
@@ -19,7 +19,7 @@ fn drain_all(
     values: &[u64],
 ) -> Header
     requires { Sound (table versions.old links.old keys.now values.now h) }
-    ensures { after versions links keys values result ≡ clearing h.n (before versions links keys values h) }
+    ensures { table versions.new links.new keys.now values.now result ≡ clearing h.n (table versions.old links.old keys.now values.now h) }
 {
     let mut g = h;
     while 0 < g.n {
@@ -37,7 +37,7 @@ pub fn clear(
     keys: &[u64],
     values: &[u64],
 ) -> Changed
-    ensures { outcome (done_said result.answer) (after versions links keys values result.header) ≡ clear (before versions links keys values h) }
+    ensures { outcome (done_said result.answer) (table versions.new links.new keys.now values.now result.header) ≡ clear (table versions.old links.old keys.now values.now h) }
 {
     match asked(h, versions, links, keys, values) {
         Verdict::Done => {

@@ -5,7 +5,7 @@ ghost use Rattle.lists.specs.Put.{put};
 ghost use Rattle.keys.specs.Keys.{idx};
 ghost use Rattle.table.proofs.Shape.{Shape};
 ghost use Rattle.table.proofs.Marking.{Marked, linked};
-ghost use Rattle.dense.specs.Lent.{table, before};
+ghost use Rattle.dense.specs.Lent.{table};
 ghost use Rattle.dense.specs.Answers.{done_said};
 ghost use Rattle.dense_disjoint.specs.Places.{leaves, disjointly};
 
@@ -26,7 +26,7 @@ fn mark_placed(
     wanted: &[u64],
 ) -> usize
     requires { Shape (table versions.old links.now keys.now values.now h) }
-    ensures { Marked (before versions links keys values h) wanted.now versions.new result }
+    ensures { Marked (table versions.old links.now keys.now values.now h) wanted.now versions.new result }
 {
     let mut m = 0;
     while m < wanted.len() {
@@ -63,7 +63,7 @@ pub fn disjoint(
     wanted: &[u64],
     out: &mut [u32],
 ) -> Verdict
-    ensures { leaves (done_said result) out.new versions.new ≡ disjointly (before versions links keys values h) wanted.now out.old }
+    ensures { leaves (done_said result) out.new versions.new ≡ disjointly (table versions.old links.now keys.now values.now h) wanted.now out.old }
 {
     if !has_shape(h, versions, links, keys, values) {
         return Verdict::Refused(Refusal::Shape);

@@ -3,7 +3,7 @@ ghost use Rattle.std.specs.Prelude.{◌≡◌, cond, ◌<◌};
 ghost use Rattle.table.specs.Table.{last_idx, last_is_held};
 ghost use Rattle.table.specs.Calls.{found, fails, drain};
 ghost use Rattle.table.proofs.Shape.{Shape};
-ghost use Rattle.dense.specs.Lent.{table, before, after};
+ghost use Rattle.dense.specs.Lent.{table};
 ghost use Rattle.dense.specs.Answers.{outcome, slot_judged};
 ghost use Rattle.dense_drain.specs.Answers.{pair_said, taking};
 
@@ -29,7 +29,7 @@ pub struct Stepped {
 // The slot of the last element, where the two name each other.
 fn last_slot(h: Header, versions: &[u32], links: &[u32], keys: &[u64], values: &[u64]) -> Slot
     requires { (Shape (table versions.now links.now keys.now values.now h)) × (0 < h.n) }
-    ensures { slot_judged result ≡ cond (last_is_held (before versions links keys values h)) (found (last_idx (before versions links keys values h))) (fails 5) }
+    ensures { slot_judged result ≡ cond (last_is_held (table versions.now links.now keys.now values.now h)) (found (last_idx (table versions.now links.now keys.now values.now h))) (fails 5) }
 {
     let last = h.n as usize - 1;
     let key = keys[last];
@@ -60,7 +60,7 @@ fn take_last(
     i: usize,
 ) -> Stepped
     requires { (Shape (table versions.old links.old keys.now values.now h)) × ((0 < h.n) × (i < h.s)) }
-    ensures { outcome (pair_said result.answer) (after versions links keys values result.header) ≡ taking (before versions links keys values h) i }
+    ensures { outcome (pair_said result.answer) (table versions.new links.new keys.now values.now result.header) ≡ taking (table versions.old links.old keys.now values.now h) i }
 {
     let last = h.n as usize - 1;
     let key = keys[last];
@@ -84,7 +84,7 @@ pub fn drain_step(
     keys: &[u64],
     values: &[u64],
 ) -> Stepped
-    ensures { outcome (pair_said result.answer) (after versions links keys values result.header) ≡ drain (before versions links keys values h) }
+    ensures { outcome (pair_said result.answer) (table versions.new links.new keys.now values.now result.header) ≡ drain (table versions.old links.old keys.now values.now h) }
 {
     if !has_shape(h, versions, links, keys, values) {
         return Stepped {

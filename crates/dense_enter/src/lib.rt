@@ -2,7 +2,7 @@
 ghost use Rattle.std.specs.Prelude.{◌≡◌};
 ghost use Rattle.table.specs.Calls.{put, inserted, insert};
 ghost use Rattle.table.proofs.Judged.{Roomy};
-ghost use Rattle.dense.specs.Lent.{table, before, after};
+ghost use Rattle.dense.specs.Lent.{table};
 ghost use Rattle.dense.specs.Answers.{outcome, value_said, issued_said};
 
 use dense::{Found, Issued, Placed, place};
@@ -25,7 +25,7 @@ pub fn put(
     k: u64,
     x: u64,
 ) -> Found
-    ensures { outcome (value_said result) (after versions links keys values h) ≡ put (before versions links keys values h) k x }
+    ensures { outcome (value_said result) (table versions.now links.now keys.now values.new h) ≡ put (table versions.now links.now keys.now values.old h) k x }
 {
     match place(h, versions, links, keys, values, k) {
         Placed::At(p) => {
@@ -48,7 +48,7 @@ fn fill(
     x: u64,
 ) -> Header
     requires { Roomy (table versions.old links.old keys.old values.old h) }
-    ensures { after versions links keys values result ≡ inserted (before versions links keys values h) k x }
+    ensures { table versions.new links.new keys.new values.new result ≡ inserted (table versions.old links.old keys.old values.old h) k x }
 {
     let n = h.n as usize;
     keys[n] = k;
@@ -82,7 +82,7 @@ pub fn insert(
     values: &mut [u64],
     x: u64,
 ) -> Inserted
-    ensures { outcome (issued_said result.answer) (after versions links keys values result.header) ≡ insert (before versions links keys values h) x }
+    ensures { outcome (issued_said result.answer) (table versions.new links.new keys.new values.new result.header) ≡ insert (table versions.old links.old keys.old values.old h) x }
 {
     match next_key(h, versions, links, keys, values) {
         Issued::Key(k) => {

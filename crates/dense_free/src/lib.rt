@@ -4,7 +4,7 @@ ghost use Rattle.std.specs.Prelude.{◌≡◌, ◌&&◌, ◌<◌, eqb};
 ghost use Rattle.lists.specs.Count.{count};
 ghost use Rattle.table.specs.Sound.{is_waiting, leads, steps};
 ghost use Rattle.table.proofs.Shape.{Shape};
-ghost use Rattle.dense.specs.Lent.{table, before};
+ghost use Rattle.dense.specs.Lent.{table};
 ghost use Rattle.dense_free.specs.Holds.{free_list_holds};
 
 use dense::{DETACHED, has_shape};
@@ -22,7 +22,7 @@ fn is_waiting(
 ) -> bool
     requires shape { Shape (table versions.now links.now keys.now values.now h) }
     requires i_lt_s { i < h.s }
-    ensures { result ≡ is_waiting (before versions links keys values h) i }
+    ensures { result ≡ is_waiting (table versions.now links.now keys.now values.now h) i }
 {
     if i < 1 {
         return false;
@@ -36,7 +36,7 @@ fn is_waiting(
 // How many slots have to be on the free list.
 fn waiting_slots(h: Header, versions: &[u32], links: &[u32], keys: &[u64], values: &[u64]) -> u32
     requires { Shape (table versions.now links.now keys.now values.now h) }
-    ensures { result ≡ count (is_waiting (before versions links keys values h)) h.s }
+    ensures { result ≡ count (is_waiting (table versions.now links.now keys.now values.now h)) h.s }
 {
     let mut m: u32 = 0;
     let mut i: u32 = 0;
@@ -59,7 +59,7 @@ fn is_free_list(
     m: u32,
 ) -> bool
     requires { Shape (table versions.now links.now keys.now values.now h) }
-    ensures { result ≡ (leads (before versions links keys values h) h.s h.f && eqb (steps (before versions links keys values h) h.s h.f) m) }
+    ensures { result ≡ (leads (table versions.now links.now keys.now values.now h) h.s h.f && eqb (steps (table versions.now links.now keys.now values.now h) h.s h.f) m) }
 {
     let mut met: u32 = 0;
     let mut g = h.f;
@@ -90,7 +90,7 @@ pub fn free_list_holds(
     keys: &[u64],
     values: &[u64],
 ) -> bool
-    ensures { result ≡ free_list_holds (before versions links keys values h) }
+    ensures { result ≡ free_list_holds (table versions.now links.now keys.now values.now h) }
 {
     if !has_shape(h, versions, links, keys, values) {
         return false;

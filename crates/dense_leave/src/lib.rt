@@ -5,7 +5,7 @@ ghost use Rattle.table.specs.Table.{last_in_range, left};
 ghost use Rattle.table.specs.Calls.{found, fails, leaving, remove, detach};
 ghost use Rattle.table.proofs.Shape.{Shape};
 ghost use Rattle.table.proofs.Judged.{Leaving};
-ghost use Rattle.dense.specs.Lent.{table, before, after};
+ghost use Rattle.dense.specs.Lent.{table};
 ghost use Rattle.dense.specs.Answers.{outcome, judged_of, value_said};
 ghost use Rattle.dense_leave.specs.Taken.{taken};
 
@@ -30,7 +30,7 @@ fn last_in(
     p: usize,
 ) -> Placed
     requires { (Shape (table versions.now links.now keys.now values.now h)) × (p < h.n) }
-    ensures { judged_of result ≡ cond (last_in_range (before versions links keys values h)) (found p) (fails 5) }
+    ensures { judged_of result ≡ cond (last_in_range (table versions.now links.now keys.now values.now h)) (found p) (fails 5) }
 {
     let last = h.n as usize - 1;
     let j = KeyData::from_ffi(keys[last]).idx;
@@ -52,7 +52,7 @@ fn leaving(
     values: &[u64],
     k: u64,
 ) -> Placed
-    ensures { judged_of result ≡ leaving (before versions links keys values h) k }
+    ensures { judged_of result ≡ leaving (table versions.now links.now keys.now values.now h) k }
 {
     match place(h, versions, links, keys, values, k) {
         Placed::At(p) => last_in(h, versions, links, keys, values, p),
@@ -85,7 +85,7 @@ fn remove_from_slot(
     link: u32,
 )
     requires { Leaving (table versions.old links.old keys.old values.old h) i (get_or links.old i 0) }
-    ensures { after versions links keys values h ≡ left (before versions links keys values h) i link h }
+    ensures { table versions.new links.new keys.new values.new h ≡ left (table versions.old links.old keys.old values.old h) i link h }
 {
     let p = free_slot(versions, links, i as usize, link) as usize;
     let last = h.n as usize - 1;
@@ -110,7 +110,7 @@ fn take(
     link: u32,
     f: u32,
 ) -> Removed
-    ensures { outcome (value_said result.answer) (after versions links keys values result.header) ≡ taken (before versions links keys values h) k link f }
+    ensures { outcome (value_said result.answer) (table versions.new links.new keys.new values.new result.header) ≡ taken (table versions.old links.old keys.old values.old h) k link f }
 {
     match leaving(h, versions, links, keys, values, k) {
         Placed::At(p) => {
@@ -141,7 +141,7 @@ pub fn remove(
     values: &mut [u64],
     k: u64,
 ) -> Removed
-    ensures { outcome (value_said result.answer) (after versions links keys values result.header) ≡ remove (before versions links keys values h) k }
+    ensures { outcome (value_said result.answer) (table versions.new links.new keys.new values.new result.header) ≡ remove (table versions.old links.old keys.old values.old h) k }
 {
     let i = KeyData::from_ffi(k).idx;
     take(h, versions, links, keys, values, k, h.f, i)
@@ -155,7 +155,7 @@ pub fn detach(
     values: &mut [u64],
     k: u64,
 ) -> Removed
-    ensures { outcome (value_said result.answer) (after versions links keys values result.header) ≡ detach (before versions links keys values h) k }
+    ensures { outcome (value_said result.answer) (table versions.new links.new keys.new values.new result.header) ≡ detach (table versions.old links.old keys.old values.old h) k }
 {
     take(h, versions, links, keys, values, k, DETACHED, h.f)
 }

@@ -1,7 +1,7 @@
 // The dense table's drain step with the header lent and changed in place. The proofs are by hand, since a reference to a struct is beyond what the checker covers.
 ghost use Rattle.std.specs.Prelude.{◌≡◌};
 ghost use Rattle.table.specs.Calls.{drain};
-ghost use Rattle.dense.specs.Lent.{before, after};
+ghost use Rattle.dense.specs.Lent.{table};
 ghost use Rattle.dense.specs.Answers.{outcome};
 ghost use Rattle.dense_drain.specs.Answers.{pair_said};
 
@@ -15,7 +15,7 @@ pub fn drain_step_in(
     keys: &[u64],
     values: &[u64],
 ) -> Drained
-    ensures { outcome (pair_said result) (after versions links keys values h.new) ≡ drain (before versions links keys values h.old) }
+    ensures { outcome (pair_said result) (table versions.new links.new keys.now values.now h.new) ≡ drain (table versions.old links.old keys.now values.now h.old) }
 {
     let d = drain_step(*h, versions, links, keys, values);
     *h = d.header;
@@ -30,7 +30,7 @@ pub fn drain_step_by(
     keys: &[u64],
     values: &[u64],
 ) -> Stepped
-    ensures { outcome (pair_said result.answer) (after versions links keys values result.header) ≡ drain (before versions links keys values h) }
+    ensures { outcome (pair_said result.answer) (table versions.new links.new keys.now values.now result.header) ≡ drain (table versions.old links.old keys.now values.now h) }
 {
     let mut g = h;
     let answer = drain_step_in(&mut g, versions, links, keys, values);

@@ -1,7 +1,7 @@
 // The dense table over lent arrays: len, is_empty, the lists and lookup. The Rust's `dense.rs`, read side.
 ghost use Rattle.std.specs.Prelude.{◌≡◌};
 ghost use Rattle.table.specs.Calls.{len, is_empty, listed_keys, listed_values, lookup};
-ghost use Rattle.dense.specs.Lent.{before};
+ghost use Rattle.dense.specs.Lent.{table};
 ghost use Rattle.dense.specs.Answers.{value_said, count_said, truth_said};
 
 use dense::{Counted, Found, Placed, Tested, has_shape, place};
@@ -9,7 +9,7 @@ use refusal::Refusal;
 use table::Header;
 
 pub fn len(h: Header, versions: &[u32], links: &[u32], keys: &[u64], values: &[u64]) -> Counted
-    ensures { count_said result ≡ len (before versions links keys values h) }
+    ensures { count_said result ≡ len (table versions.now links.now keys.now values.now h) }
 {
     if !has_shape(h, versions, links, keys, values) {
         return Counted::Refused(Refusal::Shape);
@@ -18,7 +18,7 @@ pub fn len(h: Header, versions: &[u32], links: &[u32], keys: &[u64], values: &[u
 }
 
 pub fn is_empty(h: Header, versions: &[u32], links: &[u32], keys: &[u64], values: &[u64]) -> Tested
-    ensures { truth_said result ≡ is_empty (before versions links keys values h) }
+    ensures { truth_said result ≡ is_empty (table versions.now links.now keys.now values.now h) }
 {
     if !has_shape(h, versions, links, keys, values) {
         return Tested::Refused(Refusal::Shape);
@@ -34,7 +34,7 @@ pub fn keys_as_slice<'a>(
     keys: &'a [u64],
     values: &[u64],
 ) -> &'a [u64]
-    ensures { (result.now ≡ listed_keys (before versions links keys values h)) × (result.ref_ptr ≡ keys.entry.ref_ptr) }
+    ensures { (result.now ≡ listed_keys (table versions.now links.now keys.now values.now h)) × (result.ref_ptr ≡ keys.entry.ref_ptr) }
 {
     if !has_shape(h, versions, links, keys, values) {
         return &keys[..0];
@@ -51,7 +51,7 @@ pub fn values_as_slice<'a>(
     keys: &[u64],
     values: &'a [u64],
 ) -> &'a [u64]
-    ensures { (result.now ≡ listed_values (before versions links keys values h)) × (result.ref_ptr ≡ values.entry.ref_ptr) }
+    ensures { (result.now ≡ listed_values (table versions.now links.now keys.now values.now h)) × (result.ref_ptr ≡ values.entry.ref_ptr) }
 {
     if !has_shape(h, versions, links, keys, values) {
         return &values[..0];
@@ -68,7 +68,7 @@ pub fn lookup(
     values: &[u64],
     k: u64,
 ) -> Found
-    ensures { value_said result ≡ (lookup (before versions links keys values h) k).0 }
+    ensures { value_said result ≡ (lookup (table versions.now links.now keys.now values.now h) k).0 }
 {
     match place(h, versions, links, keys, values, k) {
         Placed::At(p) => Found::Value(values[p]),

@@ -2,7 +2,7 @@
 ghost use Rattle.std.specs.Prelude.{◌≡◌};
 ghost use Rattle.table.specs.Calls.{next_in, key_said, next_key};
 ghost use Rattle.table.proofs.Shape.{Shape};
-ghost use Rattle.dense.specs.Lent.{table, before};
+ghost use Rattle.dense.specs.Lent.{table};
 ghost use Rattle.dense.specs.Answers.{issued_said};
 
 use dense::{Issued, has_shape};
@@ -13,7 +13,7 @@ use table::Header;
 // The key that an insert issues, on a table that has its shape.
 fn next_in(h: Header, versions: &[u32], links: &[u32], keys: &[u64], values: &[u64]) -> Issued
     requires { Shape (table versions.now links.now keys.now values.now h) }
-    ensures { issued_said result ≡ key_said (next_in (before versions links keys values h)) }
+    ensures { issued_said result ≡ key_said (next_in (table versions.now links.now keys.now values.now h)) }
 {
     if h.f < h.s {
         let f = h.f as usize;
@@ -41,7 +41,7 @@ fn next_in(h: Header, versions: &[u32], links: &[u32], keys: &[u64], values: &[u
 
 // The key that the next insert will answer, or the refusal that it will give.
 pub fn next_key(h: Header, versions: &[u32], links: &[u32], keys: &[u64], values: &[u64]) -> Issued
-    ensures { issued_said result ≡ next_key (before versions links keys values h) }
+    ensures { issued_said result ≡ next_key (table versions.now links.now keys.now values.now h) }
 {
     if !has_shape(h, versions, links, keys, values) {
         return Issued::Refused(Refusal::Shape);

@@ -5,7 +5,7 @@ ghost use Rattle.table.specs.Table.{ver, rejoined_head, entered};
 ghost use Rattle.table.specs.Calls.{berth_in, berth, reattach};
 ghost use Rattle.table.proofs.Shape.{Shape};
 ghost use Rattle.table.proofs.Judged.{Joining};
-ghost use Rattle.dense.specs.Lent.{table, before, after};
+ghost use Rattle.dense.specs.Lent.{table};
 ghost use Rattle.dense.specs.Answers.{outcome, slot_judged, done_said};
 
 use dense::{Changed, DETACHED, Slot, Verdict, has_shape};
@@ -23,7 +23,7 @@ fn berth_in(
     key: KeyData,
 ) -> Slot
     requires { Shape (table versions.now links.now keys.now values.now h) }
-    ensures { slot_judged result ≡ berth_in (before versions links keys values h) key.idx key.version }
+    ensures { slot_judged result ≡ berth_in (table versions.now links.now keys.now values.now h) key.idx key.version }
 {
     let i = key.idx;
     if i < 1 {
@@ -47,7 +47,7 @@ fn berth_in(
 
 // Judges a key that is to be attached again.
 fn berth(h: Header, versions: &[u32], links: &[u32], keys: &[u64], values: &[u64], k: u64) -> Slot
-    ensures { slot_judged result ≡ berth (before versions links keys values h) k }
+    ensures { slot_judged result ≡ berth (table versions.now links.now keys.now values.now h) k }
 {
     if !has_shape(h, versions, links, keys, values) {
         return Slot::Refused(Refusal::Shape);
@@ -67,7 +67,7 @@ fn rejoin(
     x: u64,
 ) -> Header
     requires { Joining (table versions.old links.old keys.old values.old h) i }
-    ensures { after versions links keys values result ≡ entered (before versions links keys values h) i (down (ver (before versions links keys values h) i)) k x (rejoined_head h) }
+    ensures { table versions.new links.new keys.new values.new result ≡ entered (table versions.old links.old keys.old values.old h) i (down (ver (table versions.old links.old keys.old values.old h) i)) k x (rejoined_head h) }
 {
     let n = h.n as usize;
     keys[n] = k;
@@ -90,7 +90,7 @@ pub fn reattach(
     k: u64,
     x: u64,
 ) -> Changed
-    ensures { outcome (done_said result.answer) (after versions links keys values result.header) ≡ reattach (before versions links keys values h) k x }
+    ensures { outcome (done_said result.answer) (table versions.new links.new keys.new values.new result.header) ≡ reattach (table versions.old links.old keys.old values.old h) k x }
 {
     match berth(h, versions, links, keys, values, k) {
         Slot::At(i) => {

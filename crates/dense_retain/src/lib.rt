@@ -3,7 +3,7 @@ ghost use Rattle.std.specs.Prelude.{◌≡◌};
 ghost use Rattle.rules.specs.Rules.{keeps_of};
 ghost use Rattle.table.specs.Sound.{Sound};
 ghost use Rattle.table.specs.Sweeps.{retaining, retain};
-ghost use Rattle.dense.specs.Lent.{table, before, after};
+ghost use Rattle.dense.specs.Lent.{table};
 ghost use Rattle.dense.specs.Answers.{outcome, done_said};
 
 use dense::{Changed, Verdict};
@@ -23,7 +23,7 @@ fn sift(
     rule: Rule,
 ) -> Header
     requires { Sound (table versions.old links.old keys.old values.old h) }
-    ensures { after versions links keys values result ≡ retaining (keeps_of rule) h.n 0 (before versions links keys values h) }
+    ensures { table versions.new links.new keys.new values.new result ≡ retaining (keeps_of rule) h.n 0 (table versions.old links.old keys.old values.old h) }
 {
     let mut g = h;
     let mut p: u32 = 0;
@@ -48,7 +48,7 @@ pub fn retain(
     values: &mut [u64],
     rule: Rule,
 ) -> Changed
-    ensures { outcome (done_said result.answer) (after versions links keys values result.header) ≡ retain (before versions links keys values h) rule }
+    ensures { outcome (done_said result.answer) (table versions.new links.new keys.new values.new result.header) ≡ retain (table versions.old links.old keys.old values.old h) rule }
 {
     match asked(h, versions, links, keys, values) {
         Verdict::Done => {

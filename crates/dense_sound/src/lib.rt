@@ -3,7 +3,7 @@ ghost use Rattle.std.specs.Prelude.{◌≡◌, ◌<◌};
 ghost use Rattle.lists.specs.Count.{count, every};
 ghost use Rattle.table.specs.Sound.{is_odd, is_home, is_sound};
 ghost use Rattle.table.proofs.Shape.{Shape};
-ghost use Rattle.dense.specs.Lent.{table, before};
+ghost use Rattle.dense.specs.Lent.{table};
 
 use dense::has_shape;
 use dense_free::free_list_holds;
@@ -14,7 +14,7 @@ use table::Header;
 fn is_home(h: Header, versions: &[u32], links: &[u32], keys: &[u64], values: &[u64], p: u32) -> bool
     requires shape { Shape (table versions.now links.now keys.now values.now h) }
     requires p_lt_n { p < h.n }
-    ensures { result ≡ is_home (before versions links keys values h) p }
+    ensures { result ≡ is_home (table versions.now links.now keys.now values.now h) p }
 {
     let k = keys[p as usize];
     let i = KeyData::from_ffi(k).idx;
@@ -37,7 +37,7 @@ fn is_home(h: Header, versions: &[u32], links: &[u32], keys: &[u64], values: &[u
 // Whether every place's key is at home.
 fn are_home(h: Header, versions: &[u32], links: &[u32], keys: &[u64], values: &[u64]) -> bool
     requires { Shape (table versions.now links.now keys.now values.now h) }
-    ensures { result ≡ every (is_home (before versions links keys values h)) h.n }
+    ensures { result ≡ every (is_home (table versions.now links.now keys.now values.now h)) h.n }
 {
     let mut p: u32 = 0;
     while p < h.n {
@@ -52,7 +52,7 @@ fn are_home(h: Header, versions: &[u32], links: &[u32], keys: &[u64], values: &[
 // How many slots have odd versions.
 fn odd_slots(h: Header, versions: &[u32], links: &[u32], keys: &[u64], values: &[u64]) -> u32
     requires { Shape (table versions.now links.now keys.now values.now h) }
-    ensures { result ≡ count (is_odd (before versions links keys values h)) h.s }
+    ensures { result ≡ count (is_odd (table versions.now links.now keys.now values.now h)) h.s }
 {
     let mut m: u32 = 0;
     let mut i: u32 = 0;
@@ -68,7 +68,7 @@ fn odd_slots(h: Header, versions: &[u32], links: &[u32], keys: &[u64], values: &
 // The check of a table that has its shape.
 fn is_sound_in(h: Header, versions: &[u32], links: &[u32], keys: &[u64], values: &[u64]) -> bool
     requires { Shape (table versions.now links.now keys.now values.now h) }
-    ensures { result ≡ is_sound (before versions links keys values h) }
+    ensures { result ≡ is_sound (table versions.now links.now keys.now values.now h) }
 {
     if versions[0] != 0 {
         return false;
@@ -87,7 +87,7 @@ fn is_sound_in(h: Header, versions: &[u32], links: &[u32], keys: &[u64], values:
 
 // Whether a table is sound. It answers on any arrays and any header.
 pub fn is_sound(h: Header, versions: &[u32], links: &[u32], keys: &[u64], values: &[u64]) -> bool
-    ensures { result ≡ is_sound (before versions links keys values h) }
+    ensures { result ≡ is_sound (table versions.now links.now keys.now values.now h) }
 {
     if !has_shape(h, versions, links, keys, values) {
         return false;

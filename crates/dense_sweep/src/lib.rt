@@ -1,6 +1,6 @@
 // What the calls that sweep over every element of a dense table share: they ask for a sound table, on which no step is refused.
 ghost use Rattle.std.specs.Prelude.{◌≡◌};
-ghost use Rattle.dense.specs.Lent.{before};
+ghost use Rattle.dense.specs.Lent.{table};
 ghost use Rattle.dense.specs.Answers.{done_said};
 ghost use Rattle.dense_sweep.specs.Asked.{asked_said};
 
@@ -11,7 +11,7 @@ use table::Header;
 
 // Whether a table may be swept.
 pub fn asked(h: Header, versions: &[u32], links: &[u32], keys: &[u64], values: &[u64]) -> Verdict
-    ensures { done_said result ≡ asked_said (before versions links keys values h) }
+    ensures { done_said result ≡ asked_said (table versions.now links.now keys.now values.now h) }
 {
     if !has_shape(h, versions, links, keys, values) {
         return Verdict::Refused(Refusal::Shape);

@@ -1,7 +1,7 @@
 // A table rebuilt from a slot image over lent arrays. The Rust's `dense.rs`, deserialize.
 ghost use Rattle.std.specs.Prelude.{◌≡◌};
 ghost use Rattle.writing.specs.Told.{tells};
-ghost use Rattle.dense.specs.Lent.{table, before, after};
+ghost use Rattle.dense.specs.Lent.{table};
 ghost use Rattle.dense.specs.Answers.{begun_of};
 ghost use Rattle.image.specs.Rebuild.{rebuilt_from, rebuild};
 ghost use Rattle.image.proofs.Storing.{stored};
@@ -27,7 +27,7 @@ fn store_record(
     slot: Record,
 ) -> Header
     requires { Room (table versions.old links.old keys.old values.old h) }
-    ensures { after versions links keys values result ≡ stored (before versions links keys values h) slot }
+    ensures { table versions.new links.new keys.new values.new result ≡ stored (table versions.old links.old keys.old values.old h) slot }
 {
     if h.s == 0 {
         versions[0] = 0;
@@ -75,7 +75,7 @@ fn store_records(
     total: u32,
 ) -> Header
     requires { Starts versions.old links.old keys.old values.old bytes.now from total }
-    ensures { tells (after versions links keys values result) ≡ rebuilt_from versions.old links.old keys.old values.old bytes.now }
+    ensures { tells (table versions.new links.new keys.new values.new result) ≡ rebuilt_from versions.old links.old keys.old values.old bytes.now }
 {
     let mut h = Header {
         n: 0,
@@ -105,7 +105,7 @@ pub fn rebuild(
     values: &mut [u64],
     bytes: &[u8],
 ) -> Started
-    ensures { outcome (begun_of result) versions links keys values ≡ rebuild versions.old links.old keys.old values.old bytes.now }
+    ensures { outcome (begun_of result) versions.new links.new keys.new values.new ≡ rebuild versions.old links.old keys.old values.old bytes.now }
 {
     if !lengths_fit(versions, links, keys, values) {
         return Started::Refused(Refusal::Shape);

@@ -4,7 +4,7 @@ ghost use Rattle.lists.specs.Put.{put};
 ghost use Rattle.writing.specs.Writing.{told_of, outcome};
 ghost use Rattle.records.specs.Records.{Fit};
 ghost use Rattle.table.specs.Sound.{is_sound};
-ghost use Rattle.dense.specs.Lent.{table, before};
+ghost use Rattle.dense.specs.Lent.{table};
 ghost use Rattle.image.specs.Image.{slot_of, image_bytes, image_len, write_image};
 ghost use Rattle.image.proofs.Writing.{end_or};
 ghost use Rattle.image_write.specs.Answers.{length_of};
@@ -34,7 +34,7 @@ fn slot_record(
     i: u32,
 ) -> Record
     requires { (is_sound (table versions.now links.now keys.now values.now h) ≡ true) × (i < h.s) }
-    ensures { (result ≡ slot_of (before versions links keys values h) i) × Fit result }
+    ensures { (result ≡ slot_of (table versions.now links.now keys.now values.now h) i) × Fit result }
 {
     let version = versions[i as usize];
     if is_odd(version) {
@@ -48,7 +48,7 @@ fn slot_record(
 // How many bytes the image of a sound table has.
 fn bytes_in(h: Header, versions: &[u32], links: &[u32], keys: &[u64], values: &[u64]) -> usize
     requires { is_sound (table versions.now links.now keys.now values.now h) ≡ true }
-    ensures { result ≡ length (image_bytes (before versions links keys values h)) }
+    ensures { result ≡ length (image_bytes (table versions.now links.now keys.now values.now h)) }
 {
     let mut total = numbers_write::encoded_len(h.s as u64);
     let mut i: u32 = 0;
@@ -62,7 +62,7 @@ fn bytes_in(h: Header, versions: &[u32], links: &[u32], keys: &[u64], values: &[
 
 // How many bytes the image of a table has, so that a caller can lend as many.
 pub fn image_len(h: Header, versions: &[u32], links: &[u32], keys: &[u64], values: &[u64]) -> Length
-    ensures { length_of result ≡ image_len (before versions links keys values h) }
+    ensures { length_of result ≡ image_len (table versions.now links.now keys.now values.now h) }
 {
     if !has_shape(h, versions, links, keys, values) {
         return Length::Refused(Refusal::Shape);
@@ -93,7 +93,7 @@ fn put_image(
     out: &mut [u8],
 )
     requires { (is_sound (table versions.now links.now keys.now values.now h) ≡ true) × (length (image_bytes (table versions.now links.now keys.now values.now h)) ≤ length out.old) }
-    ensures { out.new ≡ put out.old 0 (image_bytes (before versions links keys values h)) }
+    ensures { out.new ≡ put out.old 0 (image_bytes (table versions.now links.now keys.now values.now h)) }
 {
     let count = numbers_write::write_number(h.s as u64, 0, out);
     let mut at = place_after(count, 0);
@@ -115,7 +115,7 @@ pub fn write_image(
     values: &[u64],
     out: &mut [u8],
 ) -> Written
-    ensures { outcome result out.new ≡ write_image (before versions links keys values h) out.old }
+    ensures { outcome result out.new ≡ write_image (table versions.now links.now keys.now values.now h) out.old }
 {
     match image_len(h, versions, links, keys, values) {
         Length::Refused(why) => Written::Refused(why),

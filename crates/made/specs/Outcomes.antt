@@ -1,16 +1,17 @@
 -- What a call on a dense table leaves, with its answer as the programs tell it. Assumes nothing.
+use Rattle.std.specs.Prelude.{List, ℕ}
 use Rattle.table.specs.declared.Header.{Header}
 use Rattle.table.specs.Table.{Table}
 use Rattle.table.specs.Calls.{Out, Begun, begins, cannot}
-use Rattle.dense.specs.Lent.{Lent, after}
+use Rattle.dense.specs.Lent.{table}
 use Rattle.answers.specs.declared.Answer.{Answer}
 use Rattle.answers.specs.Kinds.{headed, refusal}
 use Rattle.answers.specs.Listed.{listed}
 use Rattle.made.specs.declared.Made.{Made}
 
 -- the answer, and the table with the header that is handed back
-abbrev pub outcome : Made → Lent → Lent → Lent → Lent → Answer × Table
-outcome r vs ls ks xs = (r.answer, after vs ls ks xs r.header)
+abbrev pub outcome : Made → List ℕ → List ℕ → List ℕ → List ℕ → Answer × Table
+outcome r vs ls ks xs = (r.answer, table vs ls ks xs r.header)
 
 -- an outcome of the rules; d is what "done" answers
 abbrev pub tells : Answer → Out → Answer × Table

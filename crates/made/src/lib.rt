@@ -1,7 +1,7 @@
 // The calls on a dense table, each handing back the header and its answer: those on one key or element.
 ghost use Rattle.std.specs.Prelude.{◌≡◌};
 ghost use Rattle.table.specs.Calls.{insert, put, remove, detach, reattach};
-ghost use Rattle.dense.specs.Lent.{before};
+ghost use Rattle.dense.specs.Lent.{table};
 ghost use Rattle.dense.specs.Answers.{begun_of};
 ghost use Rattle.answers.specs.Kinds.{done};
 ghost use Rattle.made.specs.Outcomes.{outcome, tells, begun};
@@ -40,7 +40,7 @@ pub fn insert(
     values: &mut [u64],
     x: u64,
 ) -> Made
-    ensures { outcome result versions links keys values ≡ tells done (insert (before versions links keys values h) x) }
+    ensures { outcome result versions.new links.new keys.new values.new ≡ tells done (insert (table versions.old links.old keys.old values.old h) x) }
 {
     let inserted = dense_enter::insert(h, versions, links, keys, values, x);
     let header = inserted.header;
@@ -60,7 +60,7 @@ pub fn put(
     k: u64,
     x: u64,
 ) -> Made
-    ensures { outcome result versions links keys values ≡ tells done (put (before versions links keys values h) k x) }
+    ensures { outcome result versions.now links.now keys.now values.new ≡ tells done (put (table versions.now links.now keys.now values.old h) k x) }
 {
     let old = dense_enter::put(h, versions, links, keys, values, k, x);
     Made {
@@ -78,7 +78,7 @@ pub fn reattach(
     k: u64,
     x: u64,
 ) -> Made
-    ensures { outcome result versions links keys values ≡ tells done (reattach (before versions links keys values h) k x) }
+    ensures { outcome result versions.new links.new keys.new values.new ≡ tells done (reattach (table versions.old links.old keys.old values.old h) k x) }
 {
     let reattached = dense_reattach::reattach(h, versions, links, keys, values, k, x);
     let header = reattached.header;
@@ -97,7 +97,7 @@ pub fn remove(
     values: &mut [u64],
     k: u64,
 ) -> Made
-    ensures { outcome result versions links keys values ≡ tells done (remove (before versions links keys values h) k) }
+    ensures { outcome result versions.new links.new keys.new values.new ≡ tells done (remove (table versions.old links.old keys.old values.old h) k) }
 {
     let removed = dense_leave::remove(h, versions, links, keys, values, k);
     let header = removed.header;
@@ -116,7 +116,7 @@ pub fn detach(
     values: &mut [u64],
     k: u64,
 ) -> Made
-    ensures { outcome result versions links keys values ≡ tells done (detach (before versions links keys values h) k) }
+    ensures { outcome result versions.new links.new keys.new values.new ≡ tells done (detach (table versions.old links.old keys.old values.old h) k) }
 {
     let detached = dense_leave::detach(h, versions, links, keys, values, k);
     let header = detached.header;

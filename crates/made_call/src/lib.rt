@@ -1,7 +1,7 @@
 // The calls that may change a dense table, as values: one function makes whichever it is given, and hands back the header and its answer.
 ghost use Rattle.std.specs.Prelude.{◌≡◌};
 ghost use Rattle.table.specs.Steps.{step};
-ghost use Rattle.dense.specs.Lent.{before};
+ghost use Rattle.dense.specs.Lent.{table};
 ghost use Rattle.made.specs.Outcomes.{outcome, tells};
 ghost use Rattle.made_call.specs.Called.{call_of, done_of};
 
@@ -29,7 +29,7 @@ pub fn make(
     values: &mut [u64],
     call: Call,
 ) -> Made
-    ensures { outcome result versions links keys values ≡ tells (done_of call) (step (before versions links keys values h) (call_of call)) }
+    ensures { outcome result versions.new links.new keys.new values.new ≡ tells (done_of call) (step (table versions.old links.old keys.old values.old h) (call_of call)) }
 {
     match call {
         Call::Insert(x) => made::insert(h, versions, links, keys, values, x),

@@ -2,7 +2,7 @@
 ghost use Rattle.std.specs.Prelude.{◌≡◌, length};
 ghost use Rattle.table.specs.Calls.{drain};
 ghost use Rattle.table.specs.Sweeps.{retain, clear};
-ghost use Rattle.dense.specs.Lent.{before};
+ghost use Rattle.dense.specs.Lent.{table};
 ghost use Rattle.dense_disjoint.specs.Places.{disjointly};
 ghost use Rattle.answers.specs.Kinds.{done, ended, places};
 ghost use Rattle.made.specs.Outcomes.{outcome, tells};
@@ -20,7 +20,7 @@ pub fn drain_step(
     keys: &[u64],
     values: &[u64],
 ) -> Made
-    ensures { outcome result versions links keys values ≡ tells ended (drain (before versions links keys values h)) }
+    ensures { outcome result versions.new links.new keys.now values.now ≡ tells ended (drain (table versions.old links.old keys.now values.now h)) }
 {
     let stepped = dense_drain::drain_step(h, versions, links, keys, values);
     let header = stepped.header;
@@ -39,7 +39,7 @@ pub fn drain_step_by(
     keys: &[u64],
     values: &[u64],
 ) -> Made
-    ensures { outcome result versions links keys values ≡ tells ended (drain (before versions links keys values h)) }
+    ensures { outcome result versions.new links.new keys.now values.now ≡ tells ended (drain (table versions.old links.old keys.now values.now h)) }
 {
     let stepped = dense_lent::drain_step_by(h, versions, links, keys, values);
     let header = stepped.header;
@@ -58,7 +58,7 @@ pub fn retain(
     values: &mut [u64],
     rule: Rule,
 ) -> Made
-    ensures { outcome result versions links keys values ≡ tells done (retain (before versions links keys values h) rule) }
+    ensures { outcome result versions.new links.new keys.new values.new ≡ tells done (retain (table versions.old links.old keys.old values.old h) rule) }
 {
     let retained = dense_retain::retain(h, versions, links, keys, values, rule);
     let header = retained.header;
@@ -76,7 +76,7 @@ pub fn clear(
     keys: &[u64],
     values: &[u64],
 ) -> Made
-    ensures { outcome result versions links keys values ≡ tells done (clear (before versions links keys values h)) }
+    ensures { outcome result versions.new links.new keys.now values.now ≡ tells done (clear (table versions.old links.old keys.now values.now h)) }
 {
     let cleared = dense_clear::clear(h, versions, links, keys, values);
     let header = cleared.header;
@@ -97,7 +97,7 @@ pub fn disjoint(
     wanted: &[u64],
     out: &mut [u32],
 ) -> Answer
-    ensures { leaves result out.new versions.new ≡ tells_places (places (length wanted.now)) (disjointly (before versions links keys values h) wanted.now out.old) }
+    ensures { leaves result out.new versions.new ≡ tells_places (places (length wanted.now)) (disjointly (table versions.old links.now keys.now values.now h) wanted.now out.old) }
 {
     let count = wanted.len();
     let judged = dense_disjoint::disjoint(h, versions, links, keys, values, wanted, out);

@@ -3,15 +3,15 @@ use Rattle.std.specs.Prelude.{List, ℕ}
 use Rattle.map.specs.declared.MapHeader.{MapHeader}
 use Rattle.map.specs.Map.{Map}
 use Rattle.map.specs.Calls.{Out, Begun, begins, cannot}
-use Rattle.secondary.specs.Answers.{Lent, after}
+use Rattle.secondary.specs.Answers.{lent_map}
 use Rattle.answers.specs.declared.Answer.{Answer}
 use Rattle.answers.specs.Kinds.{refusal}
 use Rattle.map_answers.specs.Listed.{listed, headed}
 use Rattle.map_made.specs.declared.Made.{Made}
 
 -- the answer, and the map with the header that is handed back
-abbrev pub outcome : Made → Lent → Lent → Answer × Map
-outcome r vs xs = (r.answer, after vs xs r.header)
+abbrev pub outcome : Made → List ℕ → List ℕ → Answer × Map
+outcome r vs xs = (r.answer, lent_map vs xs r.header)
 
 -- an outcome of the rules; d is what "done" answers
 abbrev pub tells : Answer → Out → Answer × Map

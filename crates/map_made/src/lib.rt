@@ -1,6 +1,6 @@
 // The calls on a secondary map, each handing back the header and its answer.
 ghost use Rattle.std.specs.Prelude.{◌≡◌, length};
-ghost use Rattle.secondary.specs.Answers.{before, after};
+ghost use Rattle.secondary.specs.Answers.{lent_map};
 ghost use Rattle.map.specs.Calls.{put, insert, remove, drain};
 ghost use Rattle.map.specs.Sweeps.{retain, clear, disjoint};
 ghost use Rattle.secondary_put.specs.Outcomes.{begun_of};
@@ -35,7 +35,7 @@ pub fn begun(h: MapHeader, start: Begun) -> Made
 }
 
 pub fn put(h: MapHeader, versions: &[u32], values: &mut [u64], k: u64, x: u64) -> Made
-    ensures { outcome result versions values ≡ tells done (put (before versions values h) k x) }
+    ensures { outcome result versions.now values.new ≡ tells done (put (lent_map versions.now values.old h) k x) }
 {
     let old = secondary_put::put(h, versions, values, k, x);
     Made {
@@ -45,7 +45,7 @@ pub fn put(h: MapHeader, versions: &[u32], values: &mut [u64], k: u64, x: u64) -
 }
 
 pub fn insert(h: MapHeader, versions: &mut [u32], values: &mut [u64], k: u64, x: u64) -> Made
-    ensures { outcome result versions values ≡ tells done (insert (before versions values h) k x) }
+    ensures { outcome result versions.new values.new ≡ tells done (insert (lent_map versions.old values.old h) k x) }
 {
     let inserted = secondary_enter::insert(h, versions, values, k, x);
     let header = inserted.header;
@@ -57,7 +57,7 @@ pub fn insert(h: MapHeader, versions: &mut [u32], values: &mut [u64], k: u64, x:
 }
 
 pub fn remove(h: MapHeader, versions: &mut [u32], values: &[u64], k: u64) -> Made
-    ensures { outcome result versions values ≡ tells done (remove (before versions values h) k) }
+    ensures { outcome result versions.new values.now ≡ tells done (remove (lent_map versions.old values.now h) k) }
 {
     let removed = secondary_leave::remove(h, versions, values, k);
     let header = removed.header;
@@ -69,7 +69,7 @@ pub fn remove(h: MapHeader, versions: &mut [u32], values: &[u64], k: u64) -> Mad
 }
 
 pub fn drain_step(h: MapHeader, versions: &mut [u32], values: &[u64], place: u32) -> Made
-    ensures { outcome result versions values ≡ tells ended (drain (before versions values h) place) }
+    ensures { outcome result versions.new values.now ≡ tells ended (drain (lent_map versions.old values.now h) place) }
 {
     let stepped = secondary_leave::drain_step(h, versions, values, place);
     let header = stepped.header;
@@ -81,7 +81,7 @@ pub fn drain_step(h: MapHeader, versions: &mut [u32], values: &[u64], place: u32
 }
 
 pub fn retain(h: MapHeader, versions: &mut [u32], values: &[u64], rule: Rule) -> Made
-    ensures { outcome result versions values ≡ tells done (retain (before versions values h) rule) }
+    ensures { outcome result versions.new values.now ≡ tells done (retain (lent_map versions.old values.now h) rule) }
 {
     let retained = secondary_sweep::retain(h, versions, values, rule);
     let header = retained.header;
@@ -93,7 +93,7 @@ pub fn retain(h: MapHeader, versions: &mut [u32], values: &[u64], rule: Rule) ->
 }
 
 pub fn clear(h: MapHeader, versions: &mut [u32], values: &[u64]) -> Made
-    ensures { outcome result versions values ≡ tells done (clear (before versions values h)) }
+    ensures { outcome result versions.new values.now ≡ tells done (clear (lent_map versions.old values.now h)) }
 {
     let cleared = secondary_sweep::clear(h, versions, values);
     let header = cleared.header;
@@ -112,7 +112,7 @@ pub fn disjoint(
     wanted: &[u64],
     out: &mut [u32],
 ) -> Answer
-    ensures { leaves result (after versions values h) out.new ≡ tells_slots (places (length wanted.now)) (disjoint (before versions values h) wanted.now out.old) }
+    ensures { leaves result (lent_map versions.new values.now h) out.new ≡ tells_slots (places (length wanted.now)) (disjoint (lent_map versions.old values.now h) wanted.now out.old) }
 {
     let count = wanted.len();
     let judged = secondary_disjoint::disjoint(h, versions, values, wanted, out);

@@ -1,7 +1,7 @@
 // Everything that a table holds, in one number: whether it is sound, the header, and the arrays to their ends.
 ghost use Rattle.std.specs.Prelude.{◌≡◌, cond, [], ◌∷◌};
 ghost use Rattle.replay.specs.Digest.{mixed_all};
-ghost use Rattle.dense.specs.Lent.{before};
+ghost use Rattle.dense.specs.Lent.{table};
 ghost use Rattle.replay_state.specs.State.{digest};
 
 use replay::{mix, mix_u32, mix_u64};
@@ -21,7 +21,7 @@ fn head(sound: u64, h: Header) -> u64
 }
 
 pub fn state(h: Header, versions: &[u32], links: &[u32], keys: &[u64], values: &[u64]) -> u64
-    ensures { result ≡ digest (before versions links keys values h) }
+    ensures { result ≡ digest (table versions.now links.now keys.now values.now h) }
 {
     let sound = bit(dense_sound::is_sound(h, versions, links, keys, values));
     let slots = mix_u32(mix_u32(head(sound, h), versions), links);

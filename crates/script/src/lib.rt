@@ -1,7 +1,7 @@
 // The lines of a script, run on a table: what a line asks for is done, and the answer is written as one line of text.
 ghost use Rattle.std.specs.Prelude.{◌≡◌, ◌+◌, ◌≤◌};
 ghost use Rattle.writing.specs.Writing.{told_of};
-ghost use Rattle.dense.specs.Lent.{before, after};
+ghost use Rattle.dense.specs.Lent.{table};
 ghost use Rattle.script_say.specs.Says.{room};
 ghost use Rattle.script_input.specs.Script.{end_of, ran_of, ran};
 
@@ -34,7 +34,7 @@ pub fn run_line(
     at: usize,
     out: &mut [u8],
 ) -> Ran
-    ensures { (ran_of result.end (after versions links keys values result.header) out.new ≡ ran (before versions links keys values h) line.now at out.old) × (end_of (told_of result.end) ≤ at + room) }
+    ensures { (ran_of result.end (table versions.new links.new keys.new values.new result.header) out.new ≡ ran (table versions.old links.old keys.old values.old h) line.now at out.old) × (end_of (told_of result.end) ≤ at + room) }
 {
     if !has_room(at, ROOM, out.len()) {
         return Ran {

@@ -1,6 +1,6 @@
 // What a script's commands do to a table: each is one of its calls, or only looks.
 ghost use Rattle.std.specs.Prelude.{◌≡◌};
-ghost use Rattle.dense.specs.Lent.{before, after};
+ghost use Rattle.dense.specs.Lent.{table};
 ghost use Rattle.dense.specs.Answers.{outcome, value_said, issued_said, done_said};
 ghost use Rattle.commands.specs.Lines.{asked_of};
 ghost use Rattle.script_look.specs.Answers.{answer_said, answered};
@@ -82,7 +82,7 @@ pub fn act(
     values: &mut [u64],
     command: Command,
 ) -> Acted
-    ensures { outcome (answer_said result.answer) (after versions links keys values result.header) ≡ answered (before versions links keys values h) (asked_of command) }
+    ensures { outcome (answer_said result.answer) (table versions.new links.new keys.new values.new result.header) ≡ answered (table versions.old links.old keys.old values.old h) (asked_of command) }
 {
     match command {
         Command::Insert(x) => of_inserted(insert(h, versions, links, keys, values, x)),

@@ -1,7 +1,7 @@
 // A script's input, read part by part: bytes are held until a newline ends their line, which is then run. Where the parts are cut changes nothing.
 ghost use Rattle.std.specs.Prelude.{◌≡◌, ◌+◌, ◌≤◌};
 ghost use Rattle.writing.specs.Writing.{told_of};
-ghost use Rattle.dense.specs.Lent.{before, after};
+ghost use Rattle.dense.specs.Lent.{table};
 ghost use Rattle.script_say.specs.Says.{room};
 ghost use Rattle.script_input.specs.Script.{end_of};
 ghost use Rattle.script_input.specs.Machine.{machine, step_of, closed, took, fed_of, fed, finished};
@@ -54,7 +54,7 @@ fn close(
     out: &mut [u8],
 ) -> Step
     requires { Ready count line.now at out.old }
-    ensures { (step_of result.end (machine (after versions links keys values result.header) result.count line.now out.new) ≡ closed (machine (before versions links keys values h) count line.now out.old) at) × (result.end ≤ at + room) }
+    ensures { (step_of result.end (machine (table versions.new links.new keys.new values.new result.header) result.count line.now out.new) ≡ closed (machine (table versions.old links.old keys.old values.old h) count line.now out.old) at) × (result.end ≤ at + room) }
 {
     let ran = run_line(h, versions, links, keys, values, &line[..count], at, out);
     let g = ran.header;
@@ -80,7 +80,7 @@ fn take_byte(
     out: &mut [u8],
 ) -> Step
     requires { Ready count line.old at out.old }
-    ensures { (step_of result.end (machine (after versions links keys values result.header) result.count line.new out.new) ≡ took (machine (before versions links keys values h) count line.old out.old) at b) × (result.end ≤ at + room) }
+    ensures { (step_of result.end (machine (table versions.new links.new keys.new values.new result.header) result.count line.new out.new) ≡ took (machine (table versions.old links.old keys.old values.old h) count line.old out.old) at b) × (result.end ≤ at + room) }
 {
     if b == NEWLINE {
         return close(h, versions, links, keys, values, count, line, at, out);
@@ -113,7 +113,7 @@ pub fn feed(
     part: &[u8],
     out: &mut [u8],
 ) -> Fed
-    ensures { fed_of result.end (machine (after versions links keys values result.header) result.count line.new out.new) ≡ fed (machine (before versions links keys values h) count line.old out.old) part.now }
+    ensures { fed_of result.end (machine (table versions.new links.new keys.new values.new result.header) result.count line.new out.new) ≡ fed (machine (table versions.old links.old keys.old values.old h) count line.old out.old) part.now }
 {
     if !ready(count, line.len(), part.len(), out.len()) {
         return Fed {
@@ -151,7 +151,7 @@ pub fn finish(
     line: &[u8],
     out: &mut [u8],
 ) -> Fed
-    ensures { fed_of result.end (machine (after versions links keys values result.header) result.count line.now out.new) ≡ finished (machine (before versions links keys values h) count line.now out.old) }
+    ensures { fed_of result.end (machine (table versions.new links.new keys.new values.new result.header) result.count line.now out.new) ≡ finished (machine (table versions.old links.old keys.old values.old h) count line.now out.old) }
 {
     if !ready(count, line.len(), 1, out.len()) {
         return Fed {

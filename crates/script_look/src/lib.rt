@@ -1,6 +1,6 @@
 // What a script's commands answer, and those of them that only look at the table.
 ghost use Rattle.std.specs.Prelude.{◌≡◌};
-ghost use Rattle.dense.specs.Lent.{before};
+ghost use Rattle.dense.specs.Lent.{table};
 ghost use Rattle.dense.specs.Answers.{value_said, count_said};
 ghost use Rattle.script_look.specs.Answers.{answer_said, looked};
 
@@ -47,7 +47,7 @@ pub fn look(
     values: &[u64],
     command: Command,
 ) -> Answer
-    ensures { answer_said result ≡ looked (before versions links keys values h) command }
+    ensures { answer_said result ≡ looked (table versions.now links.now keys.now values.now h) command }
 {
     match command {
         Command::Get(k) => of_value(lookup(h, versions, links, keys, values, k)),

@@ -1,7 +1,5 @@
 -- The rules' reading of what the code answers, and of the arrays that a call is lent. Assumes nothing.
 use Rattle.std.specs.Prelude.{List, ℕ}
-use Rattle.std.specs.Borrow.{Bor}
-use denote.Triple.Both.{Both}
 use Rattle.refusal.specs.Refusals.{number_of}
 use Rattle.map.specs.declared.MapHeader.{MapHeader}
 use Rattle.secondary.specs.declared.Length.{Length}
@@ -19,16 +17,9 @@ use Rattle.map.specs.Calls.{Said, said_value, said_count, said_truth, said_eleme
 
 -- ---- the lent arrays
 
--- a slice as a clause has it: when the function is entered and when it returns
-abbrev pub Lent : Type 0
-Lent = Both (Bor (List ℕ)) (Bor (List ℕ))
-
--- the map before and after a call; a slice that is lent as `&` is after it what it was before
-abbrev pub before : Lent → Lent → MapHeader → Map
-before vs xs h = record { versions = vs.entry.now; values = xs.entry.now; head = h }
-
-abbrev pub after : Lent → Lent → MapHeader → Map
-after vs xs h = record { versions = vs.exit.now; values = xs.exit.now; head = h }
+-- two arrays and a header as one map: a clause gives the arrays as a call is handed them (`.old`, `.now`) or as it leaves them (`.new`, `.now`)
+abbrev pub lent_map : List ℕ → List ℕ → MapHeader → Map
+lent_map vs xs h = record { versions = vs; values = xs; head = h }
 
 -- ---- the answers
 

@@ -3,7 +3,7 @@
 ghost use Rattle.std.specs.Prelude.{◌≡◌};
 ghost use Rattle.map.specs.Map.{lengths_fit, has_shape};
 ghost use Rattle.map.specs.Calls.{len, is_empty};
-ghost use Rattle.secondary.specs.Answers.{before, length_of, truth_of};
+ghost use Rattle.secondary.specs.Answers.{lent_map, length_of, truth_of};
 
 use map::MapHeader;
 use refusal::Refusal;
@@ -63,7 +63,7 @@ pub fn lengths_fit(versions: &[u32], values: &[u64]) -> bool
 
 // Whether the lengths and the slot count fit.
 pub fn shape(h: MapHeader, versions: &[u32], values: &[u64]) -> bool
-    ensures { result ≡ has_shape (before versions values h) }
+    ensures { result ≡ has_shape (lent_map versions.now values.now h) }
 {
     if !lengths_fit(versions, values) {
         return false;
@@ -78,7 +78,7 @@ pub fn shape(h: MapHeader, versions: &[u32], values: &[u64]) -> bool
 // ---- the count
 
 pub fn len(h: MapHeader, versions: &[u32], values: &[u64]) -> Length
-    ensures { length_of result ≡ len (before versions values h) }
+    ensures { length_of result ≡ len (lent_map versions.now values.now h) }
 {
     if !shape(h, versions, values) {
         return Length::Refused(Refusal::Shape);
@@ -87,7 +87,7 @@ pub fn len(h: MapHeader, versions: &[u32], values: &[u64]) -> Length
 }
 
 pub fn is_empty(h: MapHeader, versions: &[u32], values: &[u64]) -> Truth
-    ensures { truth_of result ≡ is_empty (before versions values h) }
+    ensures { truth_of result ≡ is_empty (lent_map versions.now values.now h) }
 {
     if !shape(h, versions, values) {
         return Truth::Refused(Refusal::Shape);

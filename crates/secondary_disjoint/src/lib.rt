@@ -5,8 +5,8 @@ ghost use Rattle.lists.specs.Put.{put};
 ghost use Rattle.keys.specs.Keys.{idx};
 ghost use Rattle.map.specs.Map.{has_shape};
 ghost use Rattle.map.specs.Sweeps.{disjoint};
-ghost use Rattle.secondary.specs.Answers.{before, after};
-ghost use Rattle.secondary_sweep.specs.Outcomes.{swept_of, handed};
+ghost use Rattle.secondary.specs.Answers.{lent_map};
+ghost use Rattle.secondary_sweep.specs.Outcomes.{swept_of};
 ghost use Rattle.map.specs.Refused.{indexes};
 ghost use Rattle.secondary_disjoint.specs.Marks.{unmarked, Marking};
 
@@ -28,8 +28,8 @@ enum Marked {
 
 // Marks the slots of the keys, in the order of the list.
 fn mark(h: MapHeader, versions: &mut [u32], values: &[u64], keys: &[u64]) -> Marked
-    requires { has_shape (handed versions values h) ≡ true }
-    ensures { Marking (before versions values h) keys.now result versions.new }
+    requires { has_shape (lent_map versions.old values.now h) ≡ true }
+    ensures { Marking (lent_map versions.old values.now h) keys.now result versions.new }
 {
     let mut n = 0;
     while n < keys.len() {
@@ -78,7 +78,7 @@ pub fn disjoint(
     keys: &[u64],
     out: &mut [u32],
 ) -> Swept
-    ensures { ((swept_of result, after versions values h), out.new) ≡ disjoint (before versions values h) keys.now out.old }
+    ensures { ((swept_of result, lent_map versions.new values.now h), out.new) ≡ disjoint (lent_map versions.old values.now h) keys.now out.old }
 {
     if !secondary::shape(h, versions, values) {
         return Swept::Refused(Refusal::Shape);

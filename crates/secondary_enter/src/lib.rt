@@ -3,7 +3,7 @@ ghost use Rattle.std.specs.Prelude.{◌≡◌, ◌≤◌, ◌<◌, length};
 ghost use Rattle.keys.specs.Keys.{far};
 ghost use Rattle.map.specs.Map.{grown, stored};
 ghost use Rattle.map.specs.Calls.{insert};
-ghost use Rattle.secondary.specs.Answers.{before, after};
+ghost use Rattle.secondary.specs.Answers.{lent_map};
 ghost use Rattle.secondary_enter.specs.Outcomes.{insertion_of};
 
 use keys::KeyData;
@@ -32,7 +32,7 @@ pub struct Insertion {
 // Makes the slots up to an index, each vacant. Their values stay.
 fn grow(h: MapHeader, versions: &mut [u32], values: &[u64], index: u32) -> MapHeader
     requires { (h.s ≤ length versions.old) × (index < length versions.old) × (index < far) }
-    ensures { after versions values result ≡ grown (before versions values h) index }
+    ensures { lent_map versions.new values.now result ≡ grown (lent_map versions.old values.now h) index }
 {
     if index < h.s {
         return h;
@@ -59,7 +59,7 @@ fn store(
     count: u32,
 ) -> MapHeader
     requires { (h.s ≤ length versions.old) × (key.idx < length versions.old) × (key.idx < far) × (length values.old ≡ length versions.old) }
-    ensures { after versions values result ≡ stored (grown (before versions values h) key.idx) key.idx key.version x count }
+    ensures { lent_map versions.new values.new result ≡ stored (grown (lent_map versions.old values.old h) key.idx) key.idx key.version x count }
 {
     let g = grow(h, versions, values, key.idx);
     let i = key.idx as usize;
@@ -69,7 +69,7 @@ fn store(
 }
 
 pub fn insert(h: MapHeader, versions: &mut [u32], values: &mut [u64], k: u64, x: u64) -> Insertion
-    ensures { insertion_of result versions values ≡ insert (before versions values h) k x }
+    ensures { insertion_of result versions.new values.new ≡ insert (lent_map versions.old values.old h) k x }
 {
     let key = KeyData::from_ffi(k);
     match judge_insert(h, versions, values, key) {

@@ -2,7 +2,7 @@
 ghost use Rattle.std.specs.Prelude.{◌≡◌, ◌≤◌};
 ghost use Rattle.map.specs.Map.{older};
 ghost use Rattle.map.specs.Calls.{settled, fate};
-ghost use Rattle.secondary.specs.Answers.{before};
+ghost use Rattle.secondary.specs.Answers.{lent_map};
 ghost use Rattle.secondary_judge.specs.Fates.{fate_of};
 
 use keys::KeyData;
@@ -48,7 +48,7 @@ fn settle(slots: u32, elements: u32, there: u32, version: u32) -> Fate
 
 // A slot that is yet to be made is vacant, whatever stands there.
 pub fn judge_insert(h: MapHeader, versions: &[u32], values: &[u64], key: KeyData) -> Fate
-    ensures { fate_of result ≡ fate (before versions values h) key }
+    ensures { fate_of result ≡ fate (lent_map versions.now values.now h) key }
 {
     if !secondary::shape(h, versions, values) {
         return Fate::Refused(Refusal::Shape);

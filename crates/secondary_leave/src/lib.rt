@@ -2,7 +2,7 @@
 ghost use Rattle.std.specs.Prelude.{◌≡◌, ◌≤◌, ◌<◌, length};
 ghost use Rattle.map.specs.Map.{emptied};
 ghost use Rattle.map.specs.Calls.{leaving, remove, drain};
-ghost use Rattle.secondary.specs.Answers.{before, after, found_of};
+ghost use Rattle.secondary.specs.Answers.{lent_map, found_of};
 ghost use Rattle.secondary_leave.specs.Outcomes.{removal_of, drained_of};
 
 use map::MapHeader;
@@ -19,7 +19,7 @@ pub struct Removal {
 
 // The slot that a key's element leaves.
 fn leaving(h: MapHeader, versions: &[u32], values: &[u64], k: u64) -> Found
-    ensures { found_of result ≡ leaving (before versions values h) k }
+    ensures { found_of result ≡ leaving (lent_map versions.now values.now h) k }
 {
     match secondary_look::slot(h, versions, values, k) {
         Found::At(i) => {
@@ -35,7 +35,7 @@ fn leaving(h: MapHeader, versions: &[u32], values: &[u64], k: u64) -> Found
 // The slot becomes vacant. Its value stays.
 fn vacate(h: MapHeader, versions: &mut [u32], values: &[u64], i: usize) -> MapHeader
     requires { (i < length versions.old) × (1 ≤ h.count) }
-    ensures { after versions values result ≡ emptied (before versions values h) i }
+    ensures { lent_map versions.new values.now result ≡ emptied (lent_map versions.old values.now h) i }
 {
     versions[i] = 0;
     MapHeader {
@@ -45,7 +45,7 @@ fn vacate(h: MapHeader, versions: &mut [u32], values: &[u64], i: usize) -> MapHe
 }
 
 pub fn remove(h: MapHeader, versions: &mut [u32], values: &[u64], k: u64) -> Removal
-    ensures { removal_of result versions values ≡ remove (before versions values h) k }
+    ensures { removal_of result versions.new values.now ≡ remove (lent_map versions.old values.now h) k }
 {
     match leaving(h, versions, values, k) {
         Found::At(i) => {
@@ -73,7 +73,7 @@ pub struct Drained {
 
 // The element that a look from the place on finds is removed.
 pub fn drain_step(h: MapHeader, versions: &mut [u32], values: &[u64], place: u32) -> Drained
-    ensures { drained_of result versions values ≡ drain (before versions values h) place }
+    ensures { drained_of result versions.new values.now ≡ drain (lent_map versions.old values.now h) place }
 {
     match secondary_peek::peek(h, versions, values, place) {
         Step::Element { key, value, next } => {

@@ -3,7 +3,7 @@ ghost use Rattle.std.specs.Prelude.{◌≡◌, ◌≤◌, length};
 ghost use Rattle.refusal.specs.Refusals.{number_of};
 ghost use Rattle.map.specs.Map.{is_there, absent};
 ghost use Rattle.map.specs.Calls.{contains, slot, lookup};
-ghost use Rattle.secondary.specs.Answers.{before, after, truth_of, found_of, got_of};
+ghost use Rattle.secondary.specs.Answers.{lent_map, truth_of, found_of, got_of};
 
 use keys::KeyData;
 use map::MapHeader;
@@ -12,7 +12,7 @@ use secondary::{Found, Got, Truth, shape};
 
 fn is_there(h: MapHeader, versions: &[u32], values: &[u64], key: KeyData) -> bool
     requires { h.s ≤ length versions.now }
-    ensures { result ≡ is_there (before versions values h) key.idx key.version }
+    ensures { result ≡ is_there (lent_map versions.now values.now h) key.idx key.version }
 {
     if h.s <= key.idx {
         return false;
@@ -22,7 +22,7 @@ fn is_there(h: MapHeader, versions: &[u32], values: &[u64], key: KeyData) -> boo
 }
 
 pub fn contains_key(h: MapHeader, versions: &[u32], values: &[u64], k: u64) -> Truth
-    ensures { truth_of result ≡ contains (before versions values h) k }
+    ensures { truth_of result ≡ contains (lent_map versions.now values.now h) k }
 {
     if !shape(h, versions, values) {
         return Truth::Refused(Refusal::Shape);
@@ -32,14 +32,14 @@ pub fn contains_key(h: MapHeader, versions: &[u32], values: &[u64], k: u64) -> T
 
 // The refusal of a key that is not there. It uses nothing that it is given, as its definition says.
 fn absent(_h: MapHeader, _versions: &[u32], _values: &[u64], _key: KeyData) -> Refusal
-    ensures { number_of result ≡ absent (before _versions _values _h) _key.idx _key.version }
+    ensures { number_of result ≡ absent (lent_map _versions.now _values.now _h) _key.idx _key.version }
 {
     Refusal::Dead
 }
 
 // The slot of a key that is there.
 pub fn slot(h: MapHeader, versions: &[u32], values: &[u64], k: u64) -> Found
-    ensures { found_of result ≡ slot (before versions values h) k }
+    ensures { found_of result ≡ slot (lent_map versions.now values.now h) k }
 {
     if !shape(h, versions, values) {
         return Found::Refused(Refusal::Shape);
@@ -52,7 +52,7 @@ pub fn slot(h: MapHeader, versions: &[u32], values: &[u64], k: u64) -> Found
 }
 
 pub fn lookup(h: MapHeader, versions: &[u32], values: &[u64], k: u64) -> Got
-    ensures { (got_of result, after versions values h) ≡ lookup (before versions values h) k }
+    ensures { (got_of result, lent_map versions.now values.now h) ≡ lookup (lent_map versions.now values.now h) k }
 {
     match slot(h, versions, values, k) {
         Found::At(i) => Got::Value(values[i]),

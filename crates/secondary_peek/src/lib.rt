@@ -1,7 +1,7 @@
 // The secondary map's step from element to element that only looks.
 ghost use Rattle.std.specs.Prelude.{◌≡◌, ◌≤◌, length};
 ghost use Rattle.map.specs.Calls.{ahead, peek};
-ghost use Rattle.secondary.specs.Answers.{before, step_of};
+ghost use Rattle.secondary.specs.Answers.{lent_map, step_of};
 
 use keys::KeyData;
 use map::MapHeader;
@@ -11,7 +11,7 @@ use secondary::{Step, shape};
 // The lowest occupied slot from a place on. Slot 0 is passed over.
 fn ahead(h: MapHeader, versions: &[u32], values: &[u64], place: u32) -> usize
     requires { h.s ≤ length versions.now }
-    ensures { result ≡ ahead (before versions values h) place }
+    ensures { result ≡ ahead (lent_map versions.now values.now h) place }
 {
     let s = h.s as usize;
     let mut i = place as usize;
@@ -28,7 +28,7 @@ fn ahead(h: MapHeader, versions: &[u32], values: &[u64], place: u32) -> usize
 }
 
 pub fn peek(h: MapHeader, versions: &[u32], values: &[u64], place: u32) -> Step
-    ensures { step_of result ≡ peek (before versions values h) place }
+    ensures { step_of result ≡ peek (lent_map versions.now values.now h) place }
 {
     if !shape(h, versions, values) {
         return Step::Refused(Refusal::Shape);

@@ -1,7 +1,7 @@
 // The secondary map's short calls that store: fresh, which begins a map, and put, which overwrites a value.
 ghost use Rattle.std.specs.Prelude.{◌≡◌};
 ghost use Rattle.map.specs.Calls.{fresh, put};
-ghost use Rattle.secondary.specs.Answers.{before, after, got_of};
+ghost use Rattle.secondary.specs.Answers.{lent_map, got_of};
 ghost use Rattle.secondary_put.specs.Outcomes.{begun_of};
 
 use map::MapHeader;
@@ -26,7 +26,7 @@ pub fn fresh(versions: &mut [u32], values: &[u64]) -> Begun
 
 // Overwrites the value of a key that is there, and answers the old one.
 pub fn put(h: MapHeader, versions: &[u32], values: &mut [u64], k: u64, x: u64) -> Got
-    ensures { (got_of result, after versions values h) ≡ put (before versions values h) k x }
+    ensures { (got_of result, lent_map versions.now values.new h) ≡ put (lent_map versions.now values.old h) k x }
 {
     match secondary_look::slot(h, versions, values, k) {
         Found::At(i) => {

@@ -3,8 +3,8 @@ ghost use Rattle.std.specs.Prelude.{◌≡◌, ◌<◌};
 ghost use Rattle.rules.specs.Rules.{keeps_of};
 ghost use Rattle.map.specs.Whole.{Whole};
 ghost use Rattle.map.specs.Sweeps.{sieved, retaining, retain, clearing, clear};
-ghost use Rattle.secondary.specs.Answers.{before, after};
-ghost use Rattle.secondary_sweep.specs.Outcomes.{sweep_of, handed};
+ghost use Rattle.secondary.specs.Answers.{lent_map};
+ghost use Rattle.secondary_sweep.specs.Outcomes.{sweep_of};
 
 use keys::KeyData;
 use map::MapHeader;
@@ -28,8 +28,8 @@ pub struct Sweep {
 
 // Looks at a slot: an element that the rule does not keep is removed.
 fn sieve(h: MapHeader, versions: &mut [u32], values: &[u64], rule: Rule, i: usize) -> MapHeader
-    requires { (Whole (handed versions values h)) × (i < h.s) }
-    ensures { after versions values result ≡ sieved (keeps_of rule) i (before versions values h) }
+    requires { (Whole (lent_map versions.old values.now h)) × (i < h.s) }
+    ensures { lent_map versions.new values.now result ≡ sieved (keeps_of rule) i (lent_map versions.old values.now h) }
 {
     let v = versions[i];
     if v == 0 {
@@ -44,8 +44,8 @@ fn sieve(h: MapHeader, versions: &mut [u32], values: &[u64], rule: Rule, i: usiz
 }
 
 fn sieve_all(h: MapHeader, versions: &mut [u32], values: &[u64], rule: Rule) -> MapHeader
-    requires { Whole (handed versions values h) }
-    ensures { after versions values result ≡ retaining (keeps_of rule) h.s 0 (before versions values h) }
+    requires { Whole (lent_map versions.old values.now h) }
+    ensures { lent_map versions.new values.now result ≡ retaining (keeps_of rule) h.s 0 (lent_map versions.old values.now h) }
 {
     let s = h.s as usize;
     let mut g = h;
@@ -58,7 +58,7 @@ fn sieve_all(h: MapHeader, versions: &mut [u32], values: &[u64], rule: Rule) -> 
 }
 
 pub fn retain(h: MapHeader, versions: &mut [u32], values: &[u64], rule: Rule) -> Sweep
-    ensures { sweep_of result versions values ≡ retain (before versions values h) rule }
+    ensures { sweep_of result versions.new values.now ≡ retain (lent_map versions.old values.now h) rule }
 {
     if !secondary::shape(h, versions, values) {
         return Sweep {
@@ -83,7 +83,7 @@ pub fn retain(h: MapHeader, versions: &mut [u32], values: &[u64], rule: Rule) ->
 
 // Drain steps until one takes nothing. Each goes on from the place after the last.
 fn drain_all(h: MapHeader, versions: &mut [u32], values: &[u64]) -> MapHeader
-    ensures { after versions values result ≡ clearing h.count (before versions values h) }
+    ensures { lent_map versions.new values.now result ≡ clearing h.count (lent_map versions.old values.now h) }
 {
     let mut g = h;
     let mut place: u32 = 0;
@@ -106,7 +106,7 @@ fn drain_all(h: MapHeader, versions: &mut [u32], values: &[u64]) -> MapHeader
 }
 
 pub fn clear(h: MapHeader, versions: &mut [u32], values: &[u64]) -> Sweep
-    ensures { sweep_of result versions values ≡ clear (before versions values h) }
+    ensures { sweep_of result versions.new values.now ≡ clear (lent_map versions.old values.now h) }
 {
     if !secondary::shape(h, versions, values) {
         return Sweep {

@@ -1,14 +1,14 @@
 // The yes-or-no check of a whole secondary map: each slot is looked at once, and nothing is stored.
 ghost use Rattle.std.specs.Prelude.{◌≡◌};
 ghost use Rattle.map.specs.Whole.{is_whole};
-ghost use Rattle.secondary.specs.Answers.{before};
+ghost use Rattle.secondary.specs.Answers.{lent_map};
 
 use map::MapHeader;
 use secondary::shape;
 
 // Whether slot 0 is vacant, every version is 0 or odd, and the count is true.
 pub fn is_whole(h: MapHeader, versions: &[u32], values: &[u64]) -> bool
-    ensures { result ≡ is_whole (before versions values h) }
+    ensures { result ≡ is_whole (lent_map versions.now values.now h) }
 {
     if !shape(h, versions, values) {
         return false;

@@ -3,4 +3,4 @@ use mathlib.Core.Path.{refl}
 use Rattle.dense_leave.proofs.free_slot.Goals as goal
 
 pub returns : goal.returns
-returns c = (refl, (rw c.version_up.ensures, refl))
+returns c = record { place = refl; versions = rw c.version_up.ensures; links = refl }

@@ -60,7 +60,7 @@ pub free_slot-p-requires : goal.free_slot-p-requires
 free_slot-p-requires c = own _ _ _ c.requires
 
 pub overflow_cast-p : goal.overflow_cast-p
-overflow_cast-p c = place-wide _ _ _ c.requires _ c.free_slot-p.ensures.0
+overflow_cast-p c = place-wide _ _ _ c.requires _ c.free_slot-p.ensures.place
 
 pub overflow_cast-last : goal.overflow_cast-last
 overflow_cast-last c = count_fits _ _ _ c.requires
@@ -69,7 +69,7 @@ pub overflow_sub-last : goal.overflow_sub-last
 overflow_sub-last c = some _ _ _ c.requires
 
 pub returns-then-p-last : goal.returns-then-p-last
-returns-then-p-last c = left-last _ _ _ _ _ _ _ c.free_slot-p.ensures.0 c.free_slot-p.ensures.1.0 c.free_slot-p.ensures.1.1 c.if-p-last.true
+returns-then-p-last c = left-last _ _ _ _ _ _ _ c.free_slot-p.ensures.place c.free_slot-p.ensures.versions c.free_slot-p.ensures.links c.if-p-last.true
 
 pub offset_bounds-keys-last : goal.offset_bounds-keys-last
 offset_bounds-keys-last c = last_scaled _ _ _ c.requires
@@ -78,10 +78,10 @@ pub bounds-keys-last : goal.bounds-keys-last
 bounds-keys-last c = last-key _ _ _ c.requires
 
 pub offset_bounds-keys-p : goal.offset_bounds-keys-p
-offset_bounds-keys-p c = place_scaled _ _ _ c.requires _ c.free_slot-p.ensures.0
+offset_bounds-keys-p c = place_scaled _ _ _ c.requires _ c.free_slot-p.ensures.place
 
 pub bounds-keys-p : goal.bounds-keys-p
-bounds-keys-p c = place-key _ _ _ c.requires _ c.free_slot-p.ensures.0
+bounds-keys-p c = place-key _ _ _ c.requires _ c.free_slot-p.ensures.place
 
 pub offset_bounds-values-last : goal.offset_bounds-values-last
 offset_bounds-values-last c = last_scaled _ _ _ c.requires
@@ -90,16 +90,16 @@ pub bounds-values-last : goal.bounds-values-last
 bounds-values-last c = last-value _ _ _ c.requires
 
 pub offset_bounds-values-p : goal.offset_bounds-values-p
-offset_bounds-values-p c = place_scaled _ _ _ c.requires _ c.free_slot-p.ensures.0
+offset_bounds-values-p c = place_scaled _ _ _ c.requires _ c.free_slot-p.ensures.place
 
 pub bounds-values-p : goal.bounds-values-p
-bounds-values-p c = place-value _ _ _ c.requires _ c.free_slot-p.ensures.0
+bounds-values-p c = place-value _ _ _ c.requires _ c.free_slot-p.ensures.place
 
 pub overflow_cast-j : goal.overflow_cast-j
 overflow_cast-j c = moved-fits _ _ _ c.requires _ (ap (λ (k : KeyData). k.idx) c.from_ffi-j.ensures)
 
 pub overflow_cast-links : goal.overflow_cast-links
-overflow_cast-links c = place-fits _ _ _ c.requires _ c.free_slot-p.ensures.0
+overflow_cast-links c = place-fits _ _ _ c.requires _ c.free_slot-p.ensures.place
 
 pub offset_bounds-links-j : goal.offset_bounds-links-j
 offset_bounds-links-j c = moved_scaled _ _ _ c.requires _ (ap (λ (k : KeyData). k.idx) c.from_ffi-j.ensures)
@@ -117,4 +117,4 @@ pub shape_of-values : goal.shape_of-values
 shape_of-values c = length-set c.args.values.now _ _
 
 pub returns : goal.returns
-returns c = left-moved _ _ _ _ _ _ _ c.free_slot-p.ensures.0 c.free_slot-p.ensures.1.0 c.free_slot-p.ensures.1.1 c.if-p-last.false _ (ap (λ (k : KeyData). k.idx) c.from_ffi-j.ensures)
+returns c = left-moved _ _ _ _ _ _ _ c.free_slot-p.ensures.place c.free_slot-p.ensures.versions c.free_slot-p.ensures.links c.if-p-last.false _ (ap (λ (k : KeyData). k.idx) c.from_ffi-j.ensures)
