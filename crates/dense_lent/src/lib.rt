@@ -1,4 +1,4 @@
-// The dense table's drain step with the header lent and changed in place. The proofs are by hand, since a reference to a struct is beyond what the checker covers.
+// The dense table's drain step with the header lent and changed in place.
 ghost use Rattle.std.specs.Prelude.{◌≡◌};
 ghost use Rattle.table.specs.Calls.{drain};
 ghost use Rattle.dense.specs.Lent.{table};
@@ -22,7 +22,7 @@ pub fn drain_step_in(
     d.answer
 }
 
-// Lends a header of its own: whoever holds the header by value calls this one, and needs no proof by hand.
+// Lends a header of its own, for whoever holds the header by value.
 pub fn drain_step_by(
     h: Header,
     versions: &mut [u32],

@@ -9,7 +9,7 @@ ghost use Rattle.reader.specs.Readers.{reader_at};
 use numbers_read::Number;
 use records::RecordRead;
 
-#[derive(Drop)]
+#[derive(Clone, Copy)]
 pub struct ImageReader<'a> {
     pub bytes: &'a [u8],
     pub at: usize,

@@ -2,8 +2,7 @@
 use mathlib.Core.Path.{◌≡◌, refl, sym, ap}
 use mathlib.Core.List.{[], ◌∷◌}
 use Prim.Native.Nat.{ℕ}
-use types.Run.{OneOf, miss}
-use denote.Enum.Declared.{tag_of}
+use mathlib.Core.Logic.{◌≢◌, ◌⊎◌, inl, inr}
 use Rattle.refusal.specs.declared.Refusal.{Refusal}
 use Rattle.refusal.specs.Refusals.{number_of}
 use Rattle.table.specs.Table.{Table}
@@ -12,7 +11,6 @@ use Rattle.table.specs.Steps.{step}
 use Rattle.table.proofs.Frames.{frame_lookup}
 use Rattle.commands.specs.declared.Command.{Command}
 use Rattle.commands.specs.declared.Command.TheVariants.{Insert, Get, Remove, Detach, Reattach, Len, Refused}
-use Rattle.commands.specs.contracts.Command.{the_type}
 use Rattle.commands.specs.Lines.{asked_of}
 use Rattle.dense.specs.Answers.{outcome}
 use Rattle.script_look.specs.Answers.{answered, looked}
@@ -30,24 +28,25 @@ pub looked-refused : {c : Command} (t : Table) {r : Refusal} → c ≡ Refused r
 unfolding looked
 looked-refused t e = rw e
 
--- by the tag that the code tests
-pub looked-stores : (t : Table) (c : Command) → OneOf (0 ∷ 2 ∷ 3 ∷ 4 ∷ []) (tag_of the_type c) → refused 17 ≡ looked t c
+-- by the kinds that the code has tested before
+pub looked-stores : (t : Table) (c : Command) → ((k : ℕ) → c ≢ Get k) → c ≢ Len → ((r : Refusal) → c ≢ Refused r) → refused 17 ≡ looked t c
 unfolding looked
-looked-stores t (Insert x) h = refl
-looked-stores t (Remove k) h = refl
-looked-stores t (Detach k) h = refl
-looked-stores t (Reattach k x) h = refl
-looked-stores t (Get k) h = absurd (miss (0 ∷ 2 ∷ 3 ∷ 4 ∷ []) 1 tt h)
-looked-stores t Len h = absurd (miss (0 ∷ 2 ∷ 3 ∷ 4 ∷ []) 5 tt h)
-looked-stores t (Refused r) h = absurd (miss (0 ∷ 2 ∷ 3 ∷ 4 ∷ []) 6 tt h)
+looked-stores t (Insert x) g l r = refl
+looked-stores t (Remove k) g l r = refl
+looked-stores t (Detach k) g l r = refl
+looked-stores t (Reattach k x) g l r = refl
+looked-stores t (Get k) g l r = absurd (g k refl)
+looked-stores t Len g l r = absurd (l refl)
+looked-stores t (Refused e) g l r = absurd (r e refl)
 
 -- a command that only looks leaves the table as it was
-pub acts_looked : (t : Table) (c : Command) {s : Said} → s ≡ looked t c → OneOf (1 ∷ 5 ∷ 6 ∷ []) (tag_of the_type c) → outcome s t ≡ answered t (asked_of c)
+pub acts_looked : (t : Table) (c : Command) {s : Said} → s ≡ looked t c
+    → ((k : ℕ) × (c ≡ Get k)) ⊎ ((c ≡ Len) ⊎ ((r : Refusal) × (c ≡ Refused r))) → outcome s t ≡ answered t (asked_of c)
 unfolding answered step looked
 acts_looked t (Get k) e h = rw e (ap (outcome (lookup t k).0) (sym (frame_lookup t k)))
 acts_looked t Len e h = rw e
 acts_looked t (Refused r) e h = rw e
-acts_looked t (Insert x) e h = absurd (miss (1 ∷ 5 ∷ 6 ∷ []) 0 tt h)
-acts_looked t (Remove k) e h = absurd (miss (1 ∷ 5 ∷ 6 ∷ []) 2 tt h)
-acts_looked t (Detach k) e h = absurd (miss (1 ∷ 5 ∷ 6 ∷ []) 3 tt h)
-acts_looked t (Reattach k x) e h = absurd (miss (1 ∷ 5 ∷ 6 ∷ []) 4 tt h)
+acts_looked t (Insert x) e h = elim h [ inl w ↦ (let p = w.1 in cc) | inr v ↦ elim v [ inl p ↦ (cc) | inr w ↦ (let p = w.1 in cc) ] ]
+acts_looked t (Remove k) e h = elim h [ inl w ↦ (let p = w.1 in cc) | inr v ↦ elim v [ inl p ↦ (cc) | inr w ↦ (let p = w.1 in cc) ] ]
+acts_looked t (Detach k) e h = elim h [ inl w ↦ (let p = w.1 in cc) | inr v ↦ elim v [ inl p ↦ (cc) | inr w ↦ (let p = w.1 in cc) ] ]
+acts_looked t (Reattach k x) e h = elim h [ inl w ↦ (let p = w.1 in cc) | inr v ↦ elim v [ inl p ↦ (cc) | inr w ↦ (let p = w.1 in cc) ] ]

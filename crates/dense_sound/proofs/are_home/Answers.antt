@@ -11,7 +11,7 @@ pub loop-p-init : goal.loop-p-init
 loop-p-init c = (search rules, every-none _)
 
 pub is_home-requires : goal.is_home-requires
-is_home-requires c = (c.requires, c.loop-p-test.true)
+is_home-requires c = record { shape = c.requires; p_lt_n = c.loop-p-test.true }
 
 pub returns-then-not-is_home : goal.returns-then-not-is_home
 returns-then-not-is_home c = every_no _ c.loop-p-test.true (refuted c.is_home.ensures c.if-not-is_home.true)
