@@ -2,10 +2,14 @@
 // The remarks of standard input say what the rules give, one before each situation; the lines after a remark are what the calls answer.
 use answers::Answer;
 use keys::KeyData;
-use libc::{STDIN_FILENO, STDOUT_FILENO};
 use lines::{first, line_at, line_end};
 use made_sweep::disjoint;
 use table::Header;
+
+// The file descriptors of standard input and of standard output.
+const STDIN_FILENO: i32 = 0;
+
+const STDOUT_FILENO: i32 = 1;
 
 // The number of a key as it may stand in an array: the version's lowest bit is as given.
 fn key(index: u32, version: u32) -> u64 {

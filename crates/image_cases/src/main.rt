@@ -4,10 +4,14 @@ use answers::Answer;
 use dense::Started;
 use image_read::rebuild;
 use image_write::write_image;
-use libc::{STDIN_FILENO, STDOUT_FILENO};
 use lines::first;
 use table::Header;
 use writing::Written;
+
+// The file descriptors of standard input and of standard output.
+const STDIN_FILENO: i32 = 0;
+
+const STDOUT_FILENO: i32 = 1;
 
 // The most bytes that an image of standard input has.
 const LONGEST: u8 = 32;

@@ -2,9 +2,11 @@
 // to the rebuild are as they were.
 use dense::Started;
 use image_read::rebuild;
-use libc::STDOUT_FILENO;
 use lines::first;
 use refusal::Refusal;
+
+// The file descriptor of standard output.
+const STDOUT_FILENO: i32 = 1;
 
 // What the arrays hold before a rebuild.
 const HELD: u32 = 0x5a5a_5a5a;

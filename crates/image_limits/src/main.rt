@@ -4,10 +4,14 @@ use answers::{Answer, COUNTS, NUMBER};
 use dense::{LIMIT, Started};
 use image_judge::judge_image;
 use image_read::rebuild;
-use libc::{STDIN_FILENO, STDOUT_FILENO};
 use lines::{first, line_at, line_end};
 use reader::record_in;
 use records::{Record, RecordRead};
+
+// The file descriptors of standard input and of standard output.
+const STDIN_FILENO: i32 = 0;
+
+const STDOUT_FILENO: i32 = 1;
 
 fn main() {
     let mut buffer = io::buffer();

@@ -8,10 +8,12 @@ use dense_leave::remove;
 use dense_look::lookup;
 use image_read::rebuild;
 use image_write::write_image;
-use libc::STDOUT_FILENO;
 use lines::first;
 use table::Header;
 use writing::Written;
+
+// The file descriptor of standard output.
+const STDOUT_FILENO: i32 = 1;
 
 fn main() {
     let mut versions = [0u32; 9];

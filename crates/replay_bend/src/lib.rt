@@ -36,7 +36,7 @@ const OUTPUT: usize = 8;
 
 // What is lent from a line on: a table of C or a map of L begins with its own lengths.
 pub fn lend(before: Lent, line: Line) -> Lent
-    ensures { result ≡ lent_by table line }
+    ensures { result ≡ lent_by before line }
 {
     let b = (line.b % 65_536) as usize;
     let c = (line.c % 65_536) as usize;

@@ -2,10 +2,14 @@
 mod calls;
 
 use answers::Answer;
-use libc::{STDIN_FILENO, STDOUT_FILENO};
 use map::MapHeader;
 use replay::least;
 use replay_bend::Lent;
+
+// The file descriptors of standard input and of standard output.
+const STDIN_FILENO: i32 = 0;
+
+const STDOUT_FILENO: i32 = 1;
 
 // Room for the list, for each array of a map, and for the places and keys of a disjoint.
 const INPUT: usize = 1_500_000;

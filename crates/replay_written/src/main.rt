@@ -3,10 +3,14 @@ mod calls;
 
 use answers::{Answer, WRITTEN};
 use calls::IMAGE;
-use libc::{STDIN_FILENO, STDOUT_FILENO};
 use replay::least;
 use replay_bend::Lent;
 use table::Header;
+
+// The file descriptors of standard input and of standard output.
+const STDIN_FILENO: i32 = 0;
+
+const STDOUT_FILENO: i32 = 1;
 
 // Room for the list, and for each array of a table.
 const INPUT: usize = 1_500_000;

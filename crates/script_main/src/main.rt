@@ -1,13 +1,22 @@
 // The script program: runs the lines of standard input on a fresh table and writes their answers to standard output.
 // A program here has no exit status of its own: what fails is said on standard error, and the program then ends.
+#![tactic(auto)]
+
+ghost use Rattle.std.specs.Prelude.{◌≤◌, length, IfSome};
+
 use dense::{Started, fresh};
-use libc::{STDERR_FILENO, STDIN_FILENO, STDOUT_FILENO};
 use script::CAPACITY;
 use script_feed::{feed, finish};
 use script_ready::HELD;
 use script_say::ROOM;
+use std::io::Read;
 use table::Header;
 use writing::Written;
+
+// The file descriptors of standard output and of standard error.
+const STDOUT_FILENO: i32 = 1;
+
+const STDERR_FILENO: i32 = 2;
 
 const SLOTS: usize = CAPACITY + 1;
 
@@ -45,8 +54,19 @@ fn print(end: Written, out: &[u8]) -> bool {
     }
 }
 
+// Reads once, as much as there is and fits; none where standard input cannot be read.
+fn read_part(rt: &HostRuntime, buffer: &mut [u8]) -> Option<usize>
+    ensures { IfSome result (λ n. n ≤ length buffer.new) }
+{
+    match rt.stdin().read(buffer) {
+        Ok(n) => Some(n),
+        Err(_) => None,
+    }
+}
+
 // Reads once, and answers the lines that end there; at the end of the input, the last one.
 fn turn(
+    rt: &HostRuntime,
     h: Header,
     versions: &mut [u32],
     links: &mut [u32],
@@ -57,16 +77,18 @@ fn turn(
     out: &mut [u8],
 ) -> Now {
     let mut buffer = [0u8; PART];
-    let got = libc::read(STDIN_FILENO, &mut buffer);
-    if got < 0 {
-        let on = fail(b"script: standard input cannot be read\n");
-        return Now {
-            header: h,
-            count,
-            on,
-        };
-    }
-    if got == 0 {
+    let n = match read_part(rt, &mut buffer) {
+        Some(n) => n,
+        None => {
+            let on = fail(b"script: standard input cannot be read\n");
+            return Now {
+                header: h,
+                count,
+                on,
+            };
+        }
+    };
+    if n == 0 {
         let last = finish(h, versions, links, keys, values, count, line, out);
         let g = last.header;
         let end = last.end;
@@ -77,7 +99,6 @@ fn turn(
             on: false,
         };
     }
-    let n = io::count(got, &buffer);
     let fed = feed(
         h,
         versions,
@@ -99,6 +120,7 @@ fn turn(
 }
 
 fn run(
+    rt: &HostRuntime,
     h: Header,
     versions: &mut [u32],
     links: &mut [u32],
@@ -111,7 +133,7 @@ fn run(
     let mut count = 0;
     let mut turns = u64::MAX;
     while turns > 0 {
-        let now = turn(g, versions, links, keys, values, count, line, out);
+        let now = turn(rt, g, versions, links, keys, values, count, line, out);
         g = now.header;
         count = now.count;
         if !now.on {
@@ -121,7 +143,7 @@ fn run(
     }
 }
 
-fn main() {
+fn main(rt: HostRuntime) {
     let mut versions = [0u32; SLOTS];
     let mut links = [0u32; SLOTS];
     let mut keys = [0u64; CAPACITY];
@@ -130,6 +152,7 @@ fn main() {
     let mut out = [0u8; OUTPUT];
     match fresh(&mut versions, &mut links, &keys, &values) {
         Started::With(h) => run(
+            &rt,
             h,
             &mut versions,
             &mut links,

@@ -3,10 +3,14 @@
 // those of the lists that the comparison replays, with `b` for fresh on what is lent and `q` for the check.
 mod calls;
 
-use libc::{STDIN_FILENO, STDOUT_FILENO};
 use map::MapHeader;
 use replay::least;
 use replay_bend::Lent;
+
+// The file descriptors of standard input and of standard output.
+const STDIN_FILENO: i32 = 0;
+
+const STDOUT_FILENO: i32 = 1;
 
 // Room for each array of a map, and for the keys of a disjoint.
 const ROOM: usize = 4100;

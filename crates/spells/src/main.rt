@@ -5,11 +5,15 @@ use dense::{Started, fresh};
 use image_read::rebuild;
 use image_write::write_image;
 use keys::KeyData;
-use libc::{STDIN_FILENO, STDOUT_FILENO};
 use lines::{first, line_at, line_end};
 use made::{Made, insert, remove};
 use table::Header;
 use writing::Written;
+
+// The file descriptors of standard input and of standard output.
+const STDIN_FILENO: i32 = 0;
+
+const STDOUT_FILENO: i32 = 1;
 
 // 1v1
 const FIRST: u64 = 0x1_0000_0001;
