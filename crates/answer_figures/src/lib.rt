@@ -1,5 +1,7 @@
 // The answers that are told by their numbers, as text in a lent buffer. A refusal is `refused ` and the rules' number; keys print as they do in the
 // script.
+#![tactic(auto)]
+
 ghost use Rattle.std.specs.Prelude.{◌≡◌, [], ◌∷◌};
 ghost use Rattle.keys.specs.Keys.{key_of};
 ghost use Rattle.text.specs.Text.{decimal, key_text};

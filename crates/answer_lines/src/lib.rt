@@ -1,4 +1,6 @@
 // The line that a program prints for an answer, in a lent buffer: a word, or figures.
+#![tactic(auto)]
+
 ghost use Rattle.std.specs.Prelude.{◌≡◌};
 ghost use Rattle.pieces.specs.Pieces.{page, wrote, wrote_all};
 ghost use Rattle.answer_lines.specs.Answers.{truth_text, text_of, line_of};

@@ -1,4 +1,6 @@
 // What a call answered, as one kind and up to three numbers: for programs that print answers or compare them.
+#![tactic(auto)]
+
 ghost use Rattle.std.specs.Prelude.{◌≡◌};
 ghost use Rattle.refusal.specs.Refusals.{number_of};
 ghost use Rattle.dense.specs.Answers.{value_said, issued_said, count_said, truth_said, done_said, judged_of, begun_of};

@@ -1,4 +1,6 @@
 // The lines of a script: what a line of bytes asks for.
+#![tactic(auto)]
+
 ghost use Rattle.std.specs.Prelude.{◌≡◌};
 ghost use Rattle.fields.specs.Fields.{field_at};
 ghost use Rattle.commands.specs.Lines.{most64, key_in, insert_of, reattach_of, plain_of, keyed_of, asked_of, asked};

@@ -1,4 +1,6 @@
 // The dense table over lent arrays: the answers of its calls, fresh, and the judgements that the other calls begin with: shape, and where a key stands.
+#![tactic(auto)]
+
 ghost use Rattle.std.specs.Prelude.{◌≡◌, List, ℕ};
 ghost use Rattle.refusal.specs.Refusals.{number_of};
 ghost use Rattle.table.specs.Table.{lengths_fit, has_shape, is_live, dead};

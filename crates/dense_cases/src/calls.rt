@@ -1,6 +1,6 @@
 // The calls on a table, each answered in words. The arrays are the parts that are lent.
-use answers::{Answer, counted, issued, placed, tested, value};
 use crate::STDOUT_FILENO;
+use answers::{Answer, counted, issued, placed, tested, value};
 use lines::first;
 use made::{Made, begun};
 use made_call::{Call, make};

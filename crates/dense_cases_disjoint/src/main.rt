@@ -1,5 +1,7 @@
 // Situations of disjoint that are easy to get wrong, each run through the real arrays.
 // The remarks of standard input say what the rules give, one before each situation; the lines after a remark are what the calls answer.
+#![tactic(auto)]
+
 use answers::Answer;
 use keys::KeyData;
 use lines::{first, line_at, line_end};

@@ -1,4 +1,6 @@
 // The dense table's clear: a sound table is drained, step by step, until nothing is left.
+#![tactic(auto)]
+
 ghost use Rattle.std.specs.Prelude.{◌≡◌};
 ghost use Rattle.table.specs.Sound.{Sound};
 ghost use Rattle.table.specs.Sweeps.{clearing, clear};

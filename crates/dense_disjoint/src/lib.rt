@@ -1,5 +1,7 @@
 // The dense table over lent arrays: the places of a list of keys, all live and all different, as the Rust's `get_disjoint_mut` finds them.
 // Each accepted key's slot is marked, so that a repeated key is not live; the marks are undone before the answer.
+#![tactic(auto)]
+
 ghost use Rattle.std.specs.Prelude.{◌≡◌, ℕ, ◌<◌, ◌≤◌, length, get_or};
 ghost use Rattle.lists.specs.Put.{put};
 ghost use Rattle.keys.specs.Keys.{idx};

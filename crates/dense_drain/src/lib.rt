@@ -1,4 +1,6 @@
 // The dense table over lent arrays: the drain step, which takes the last element out. It judges first, on shared slices, and then only stores.
+#![tactic(auto)]
+
 ghost use Rattle.std.specs.Prelude.{◌≡◌, cond, ◌<◌};
 ghost use Rattle.table.specs.Table.{last_idx, last_is_held};
 ghost use Rattle.table.specs.Calls.{found, fails, drain};

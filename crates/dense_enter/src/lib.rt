@@ -1,4 +1,6 @@
 // The dense table over lent arrays: the calls that store a value. Each judges first, on shared slices, and then only stores.
+#![tactic(auto)]
+
 ghost use Rattle.std.specs.Prelude.{◌≡◌};
 ghost use Rattle.table.specs.Calls.{put, inserted, insert};
 ghost use Rattle.table.proofs.Judged.{Roomy};

@@ -1,5 +1,7 @@
 // The free list of a dense table, looked at whole: each slot a fixed number of times, and nothing is stored.
 // A free list that ends meets no slot twice, so it holds every waiting slot when it is as long as there are waiting slots.
+#![tactic(auto)]
+
 ghost use Rattle.std.specs.Prelude.{◌≡◌, ◌&&◌, ◌<◌, eqb};
 ghost use Rattle.lists.specs.Count.{count};
 ghost use Rattle.table.specs.Sound.{is_waiting, leads, steps};

@@ -1,4 +1,6 @@
 // The dense table over lent arrays: the calls that take an element out. Each judges first, on shared slices, and then only stores.
+#![tactic(auto)]
+
 ghost use Rattle.std.specs.Prelude.{◌≡◌, cond, ◌<◌, length, get_or, set};
 ghost use Rattle.keys.specs.Keys.{up};
 ghost use Rattle.table.specs.Table.{last_in_range, left};

@@ -1,4 +1,6 @@
 // The dense table's drain step with the header lent and changed in place.
+#![tactic(auto)]
+
 ghost use Rattle.std.specs.Prelude.{◌≡◌};
 ghost use Rattle.table.specs.Calls.{drain};
 ghost use Rattle.dense.specs.Lent.{table};

@@ -1,4 +1,6 @@
 // The dense table over lent arrays: len, is_empty, the lists and lookup. The Rust's `dense.rs`, read side.
+#![tactic(auto)]
+
 ghost use Rattle.std.specs.Prelude.{◌≡◌};
 ghost use Rattle.table.specs.Calls.{len, is_empty, listed_keys, listed_values, lookup};
 ghost use Rattle.dense.specs.Lent.{table};

@@ -1,4 +1,6 @@
 // The dense table over lent arrays: the key that the next insert answers.
+#![tactic(auto)]
+
 ghost use Rattle.std.specs.Prelude.{◌≡◌};
 ghost use Rattle.table.specs.Calls.{next_in, key_said, next_key};
 ghost use Rattle.table.proofs.Shape.{Shape};

@@ -1,4 +1,6 @@
 // The dense table over lent arrays: a detached element stored again. It judges first, on shared slices, and then only stores.
+#![tactic(auto)]
+
 ghost use Rattle.std.specs.Prelude.{◌≡◌};
 ghost use Rattle.keys.specs.Keys.{down};
 ghost use Rattle.table.specs.Table.{ver, rejoined_head, entered};

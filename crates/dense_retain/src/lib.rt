@@ -1,4 +1,6 @@
 // The dense table's retain: a sound table is walked once, and what the rule does not keep is removed.
+#![tactic(auto)]
+
 ghost use Rattle.std.specs.Prelude.{◌≡◌};
 ghost use Rattle.rules.specs.Rules.{keeps_of};
 ghost use Rattle.table.specs.Sound.{Sound};

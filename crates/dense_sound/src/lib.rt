@@ -1,4 +1,6 @@
 // The yes-or-no check of a whole table: each slot and each place is looked at a fixed number of times, and nothing is stored.
+#![tactic(auto)]
+
 ghost use Rattle.std.specs.Prelude.{◌≡◌, ◌<◌};
 ghost use Rattle.lists.specs.Count.{count, every};
 ghost use Rattle.table.specs.Sound.{is_odd, is_home, is_sound};

@@ -1,4 +1,6 @@
 // What the calls that sweep over every element of a dense table share: they ask for a sound table, on which no step is refused.
+#![tactic(auto)]
+
 ghost use Rattle.std.specs.Prelude.{◌≡◌};
 ghost use Rattle.dense.specs.Lent.{table};
 ghost use Rattle.dense.specs.Answers.{done_said};

@@ -1,4 +1,6 @@
 // The fields of a script's line: a space and a decimal number after it. A number is read up to a limit, so one reader serves both widths.
+#![tactic(auto)]
+
 ghost use Rattle.std.specs.Prelude.{◌≡◌, get_or};
 ghost use Rattle.text.specs.Text.{digit_of};
 ghost use Rattle.fields.specs.Fields.{number_at, field_at};

@@ -14,7 +14,7 @@ use Rattle.table.specs.Table.{Table, ver, link, cap, is_live, is_detached}
 use Rattle.table.specs.Calls.{said_key, refused, Out, insert}
 use Rattle.table.specs.Sound.{Vacant, Sound}
 use Rattle.table.specs.Refused.{Used}
-use Rattle.table.proofs.Shape.{Shape, shape}
+use Rattle.table.proofs.Shape.{Shape}
 use Rattle.table.proofs.Judged.{live}
 use Rattle.table.proofs.Facts.{facts_live, detached_facts, facts_detached}
 use Rattle.table.proofs.Chains.{Chain}

@@ -19,7 +19,6 @@ use Rattle.table.specs.Steps.{Call, c_insert, step, after, history}
 use Rattle.history.specs.Reading.{change, Reading, changed, reading, value_in, removed_at, removals, Known, round}
 use Rattle.history.specs.Begins.{Begins}
 use Rattle.history.proofs.Readings.{value_mem, in_mem}
-use Rattle.table.proofs.Judged.{live}
 use Rattle.table.proofs.Orderly.{orderly}
 use Rattle.table.proofs.Enter.{head_free}
 use Rattle.table.proofs.Cases.{issued_ways}

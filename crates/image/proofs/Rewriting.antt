@@ -28,7 +28,6 @@ use Rattle.table.specs.Table.{Table, ver, link, val, is_live, lengths_fit}
 use Rattle.table.specs.Calls.{begins}
 use Rattle.table.specs.Sound.{Sound}
 use Rattle.history.specs.Begins.{find}
-use Rattle.table.proofs.Shape.{shape}
 use Rattle.table.proofs.Judged.{live}
 use Rattle.table.proofs.Facts.{facts_live}
 use Rattle.table.proofs.Orderly.{Orderly, orderly}

@@ -1,4 +1,6 @@
 // What a call on a slot image answered, as one kind and up to three numbers.
+#![tactic(auto)]
+
 ghost use Rattle.std.specs.Prelude.{◌≡◌};
 ghost use Rattle.image_write.specs.Answers.{length_of};
 ghost use Rattle.image_judge.specs.Answers.{counts_of};

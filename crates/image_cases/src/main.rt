@@ -1,5 +1,7 @@
 // Images of standard input. A line of it is an image in hexadecimal, rebuilt into a table of C = 3 and written again; or a remark after `#`, which is
 // told before what follows it.
+#![tactic(auto)]
+
 use answers::Answer;
 use dense::Started;
 use image_read::rebuild;

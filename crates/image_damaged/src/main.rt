@@ -1,5 +1,7 @@
 // Good images, damaged at every byte: cut before it, each of its bits flipped, or a byte more at the end. Whatever the refusal, the arrays that were lent
 // to the rebuild are as they were.
+#![tactic(auto)]
+
 use dense::Started;
 use image_read::rebuild;
 use lines::first;

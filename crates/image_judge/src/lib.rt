@@ -1,4 +1,6 @@
 // The slot image judged: its first fault, or how large a table it rebuilds to. The Rust's `dense.rs`, deserialize.
+#![tactic(auto)]
+
 ghost use Rattle.std.specs.Prelude.{◌≡◌};
 ghost use Rattle.summaries.specs.Summaries.{judgement_of};
 ghost use Rattle.image.specs.Rebuild.{first_wrong, judged_at, judged_counts};

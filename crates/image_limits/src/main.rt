@@ -1,5 +1,7 @@
 // Rebuilds into the smallest and the largest table, and into arrays that are too long; and records read by the reader that holds the bytes. The remarks of
 // standard input say what follows.
+#![tactic(auto)]
+
 use answers::{Answer, COUNTS, NUMBER};
 use dense::{LIMIT, Started};
 use image_judge::judge_image;

@@ -1,4 +1,6 @@
 // A table rebuilt from a slot image over lent arrays. The Rust's `dense.rs`, deserialize.
+#![tactic(auto)]
+
 ghost use Rattle.std.specs.Prelude.{◌≡◌};
 ghost use Rattle.writing.specs.Told.{tells};
 ghost use Rattle.dense.specs.Lent.{table};

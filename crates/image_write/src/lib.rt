@@ -1,4 +1,6 @@
 // The slot image written: a sound table's slots as bytes in a lent buffer. The Rust's `dense.rs`, serialize.
+#![tactic(auto)]
+
 ghost use Rattle.std.specs.Prelude.{◌≡◌, true, ◌<◌, ◌≤◌, length};
 ghost use Rattle.lists.specs.Put.{put};
 ghost use Rattle.writing.specs.Writing.{told_of, outcome};

@@ -1,6 +1,8 @@
 // Keys: the index of a slot and the version that the slot had when the key was issued.
 // Every number given as a key is read by `from_ffi`, and every key is packed by `as_ffi`; only the replays, whose lists have keys bent in one field, take a
 // number apart besides.
+#![tactic(auto)]
+
 ghost use Rattle.std.specs.Prelude.{◌≡◌, ◌%◌, ◌==◌};
 ghost use Rattle.keys.specs.Keys.{vsn, odd, up, down, key_of, number_of, null_key, is_null, made};
 

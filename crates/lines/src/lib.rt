@@ -1,4 +1,6 @@
 // The lines of a text, and arrays as lines of numbers in a lent buffer.
+#![tactic(auto)]
+
 ghost use Rattle.std.specs.Prelude.{◌≡◌, take};
 ghost use Rattle.lines.specs.Lines.{line_end, line_at};
 

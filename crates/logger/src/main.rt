@@ -1,6 +1,8 @@
 // A first example: the logger of one day. It opens a spell when the water under a contactor runs acid, reads it and closes it, and shows that a closed
 // spell's key opens nothing. Another spell gets a newer reading and stays open; the day's image goes to a second table, where it still answers to its
 // key. A value is a contactor's number and a reading: contactor times 1,000 plus the pH times 100.
+#![tactic(auto)]
+
 use answers::Answer;
 use dense::{Found, Issued, Started, fresh};
 use dense_enter::{insert, put};

@@ -1,4 +1,6 @@
 // The calls on a dense table, each handing back the header and its answer: those on one key or element.
+#![tactic(auto)]
+
 ghost use Rattle.std.specs.Prelude.{◌≡◌};
 ghost use Rattle.table.specs.Calls.{insert, put, remove, detach, reattach};
 ghost use Rattle.dense.specs.Lent.{table};

@@ -1,4 +1,6 @@
 // The calls that may change a dense table, as values: one function makes whichever it is given, and hands back the header and its answer.
+#![tactic(auto)]
+
 ghost use Rattle.std.specs.Prelude.{◌≡◌};
 ghost use Rattle.table.specs.Steps.{step};
 ghost use Rattle.dense.specs.Lent.{table};

@@ -1,4 +1,6 @@
 // The calls over a dense table's elements, each handing back the header and its answer: drain steps, retain, clear and disjoint.
+#![tactic(auto)]
+
 ghost use Rattle.std.specs.Prelude.{◌≡◌, length};
 ghost use Rattle.table.specs.Calls.{drain};
 ghost use Rattle.table.specs.Sweeps.{retain, clear};

@@ -1,5 +1,6 @@
 // The secondary map on paper: its calls as definitions, what whole means, and the theorems over them.
 // The only code is the header that the calls take and give back.
+#![tactic(auto)]
 
 // The two numbers of a map: slots and elements.
 #[derive(Clone, Copy)]

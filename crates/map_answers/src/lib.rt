@@ -1,4 +1,6 @@
 // What a call on a secondary map answered, as one kind and up to three numbers.
+#![tactic(auto)]
+
 ghost use Rattle.std.specs.Prelude.{◌≡◌};
 ghost use Rattle.secondary.specs.Answers.{length_of, truth_of, found_of, got_of, step_of};
 ghost use Rattle.secondary_put.specs.Outcomes.{begun_of};

@@ -1,4 +1,6 @@
 // The calls on a secondary map, each handing back the header and its answer.
+#![tactic(auto)]
+
 ghost use Rattle.std.specs.Prelude.{◌≡◌, length};
 ghost use Rattle.secondary.specs.Answers.{lent_map};
 ghost use Rattle.map.specs.Calls.{put, insert, remove, drain};

@@ -1,5 +1,7 @@
 // Marks by which a list of keys is judged for repeats in linear time: the slot of a key that has been seen carries its version
 // with the lowest bit turned. To mark the same keys again takes the marks away.
+#![tactic(auto)]
+
 ghost use Rattle.std.specs.Prelude.{◌≡◌};
 ghost use Rattle.marks.specs.Marks.{flipped, toggled, marked};
 

@@ -1,5 +1,7 @@
 // Seven-bit numbers, unsigned LEB128 in shortest form: what they are, and what one byte makes of the groups before it.
 // `take_byte` is given the largest number, so it serves every width.
+#![tactic(auto)]
+
 ghost use Rattle.std.specs.Prelude.{◌≡◌};
 ghost use Rattle.numbers.specs.Numbers.{step_of, take_of};
 

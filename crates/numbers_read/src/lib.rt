@@ -1,4 +1,6 @@
 // Seven-bit numbers, read from lent bytes.
+#![tactic(auto)]
+
 ghost use Rattle.std.specs.Prelude.{◌≡◌, drop};
 ghost use Rattle.numbers.specs.Numbers.{read_from, number_at, unread};
 ghost use Rattle.numbers_read.specs.Reading.{reading_of};

@@ -1,4 +1,6 @@
 // Seven-bit numbers in shortest form, written into a lent buffer.
+#![tactic(auto)]
+
 ghost use Rattle.std.specs.Prelude.{◌≡◌, ◌+◌, ◌≤◌, length};
 ghost use Rattle.lists.specs.Put.{put};
 ghost use Rattle.writing.specs.Writing.{told_of, outcome, written, written_after};

@@ -1,5 +1,7 @@
 // Text in a lent buffer, piece by piece: bytes, numbers, keys. Each writer is given the place where its text begins and hands back the place
 // behind it; a piece that does not fit is left out.
+#![tactic(auto)]
+
 ghost use Rattle.std.specs.Prelude.{◌≡◌, [], ◌∷◌, ◌<◌};
 ghost use Rattle.keys.specs.Keys.{key_of};
 ghost use Rattle.writing.specs.Writing.{told_of};

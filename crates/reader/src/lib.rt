@@ -1,5 +1,7 @@
 // The image reader as a struct: the lent bytes and a place in them. Each function takes it apart and calls the reader of that slice and place;
 // an answer names the next place, and `moved` goes there.
+#![tactic(auto)]
+
 ghost use Rattle.std.specs.Prelude.{◌≡◌};
 ghost use Rattle.numbers_read.specs.Reading.{reading_of};
 ghost use Rattle.numbers.specs.Numbers.{number_at};

@@ -1,4 +1,6 @@
 // A slot image's records: each slot's version, presence and value, read from lent bytes and written into a lent buffer.
+#![tactic(auto)]
+
 ghost use Rattle.std.specs.Prelude.{◌≡◌, length};
 ghost use Rattle.writing.specs.Writing.{outcome, written};
 ghost use Rattle.records.specs.Records.{record_of, record_at, record_bytes};

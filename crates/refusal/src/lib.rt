@@ -1,5 +1,7 @@
 // The refusals that the rules number, one variant for each row of their table.
 // Only this crate looks at the variants: others hand a refusal on, and speak of its number.
+#![tactic(auto)]
+
 ghost use Rattle.std.specs.Prelude.{◌≡◌};
 ghost use Rattle.refusal.specs.Refusals.{number_of};
 

@@ -1,4 +1,6 @@
 // What the programs that replay the lists share: what a line of calls says, and the digest of whole states.
+#![tactic(auto)]
+
 ghost use Rattle.std.specs.Prelude.{◌≡◌, ◌%◌, ◌<◌, min};
 ghost use Rattle.replay.specs.Digest.{mixed, mixed_all};
 ghost use Rattle.replay.specs.Lines.{blank, longer, taken, key_number, rule_of};

@@ -1,5 +1,7 @@
 // The lines of a list that are no calls. Most bend a table or a map: how much of each array is lent, a cell, the header; no call leaves what
 // they make. The others name the keys of the next disjoint.
+#![tactic(auto)]
+
 ghost use Rattle.std.specs.Prelude.{◌≡◌, ◌%◌};
 ghost use Rattle.replay_bend.specs.Bends.{lent_all, lent_by, cell, headed_by, asking, asked};
 

@@ -1,4 +1,6 @@
 // Bytes and digests as hexadecimal digits, for a replay's output.
+#![tactic(auto)]
+
 ghost use Rattle.std.specs.Prelude.{◌≡◌, ◌<◌};
 ghost use Rattle.pieces.specs.Pieces.{page, wrote_all};
 ghost use Rattle.replay_hex.specs.Hex.{hex16, hex32, hex64, hex_line};

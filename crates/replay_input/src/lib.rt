@@ -1,4 +1,6 @@
 // The lines of a replay's input: what a line says, where the next one begins, and the bytes of an image that a line spells.
+#![tactic(auto)]
+
 ghost use Rattle.std.specs.Prelude.{◌≡◌, ◌<◌, drop, [], ◌∷◌};
 ghost use Rattle.pieces.specs.Pieces.{page, wrote_all};
 ghost use Rattle.lines.specs.Lines.{line_at};

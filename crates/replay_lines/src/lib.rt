@@ -1,4 +1,6 @@
 // An answer as a line of a replay's output: short, and without words.
+#![tactic(auto)]
+
 ghost use Rattle.std.specs.Prelude.{◌≡◌, [], ◌∷◌, take};
 ghost use Rattle.text.specs.Text.{decimal};
 ghost use Rattle.pieces.specs.Pieces.{page, wrote_all};

@@ -1,4 +1,6 @@
 // Everything that a table holds, in one number: whether it is sound, the header, and the arrays to their ends.
+#![tactic(auto)]
+
 ghost use Rattle.std.specs.Prelude.{◌≡◌, cond, [], ◌∷◌};
 ghost use Rattle.replay.specs.Digest.{mixed_all};
 ghost use Rattle.dense.specs.Lent.{table};

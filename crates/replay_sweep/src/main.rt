@@ -1,4 +1,6 @@
 // Replays a list of sweeps over dense tables: a line of input is a call, a line of output its answer.
+#![tactic(auto)]
+
 mod calls;
 
 use answers::Answer;

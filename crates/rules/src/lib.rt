@@ -1,4 +1,6 @@
 // The rules by which retain keeps an element. They are data, where the Rust takes a closure.
+#![tactic(auto)]
+
 ghost use Rattle.std.specs.Prelude.{◌≡◌};
 ghost use Rattle.rules.specs.Rules.{keeps_of};
 

@@ -1,4 +1,6 @@
 // The lines of a script, run on a table: what a line asks for is done, and the answer is written as one line of text.
+#![tactic(auto)]
+
 ghost use Rattle.std.specs.Prelude.{◌≡◌, ◌+◌, ◌≤◌};
 ghost use Rattle.writing.specs.Writing.{told_of};
 ghost use Rattle.dense.specs.Lent.{table};

@@ -1,4 +1,6 @@
 // What a script's commands do to a table: each is one of its calls, or only looks.
+#![tactic(auto)]
+
 ghost use Rattle.std.specs.Prelude.{◌≡◌};
 ghost use Rattle.dense.specs.Lent.{table};
 ghost use Rattle.dense.specs.Answers.{outcome, value_said, issued_said, done_said};

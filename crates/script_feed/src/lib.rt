@@ -1,4 +1,6 @@
 // A script's input, read part by part: bytes are held until a newline ends their line, which is then run. Where the parts are cut changes nothing.
+#![tactic(auto)]
+
 ghost use Rattle.std.specs.Prelude.{◌≡◌, ◌+◌, ◌≤◌};
 ghost use Rattle.writing.specs.Writing.{told_of};
 ghost use Rattle.dense.specs.Lent.{table};

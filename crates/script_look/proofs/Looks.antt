@@ -1,6 +1,5 @@
 -- What a command that only looks is answered, by its kind. Assumes nothing.
 use mathlib.Core.Path.{◌≡◌, refl, sym, ap}
-use mathlib.Core.List.{[], ◌∷◌}
 use Prim.Native.Nat.{ℕ}
 use mathlib.Core.Logic.{◌≢◌, ◌⊎◌, inl, inr}
 use Rattle.refusal.specs.declared.Refusal.{Refusal}

@@ -1,4 +1,6 @@
 // What a script's commands answer, and those of them that only look at the table.
+#![tactic(auto)]
+
 ghost use Rattle.std.specs.Prelude.{◌≡◌};
 ghost use Rattle.dense.specs.Lent.{table};
 ghost use Rattle.dense.specs.Answers.{value_said, count_said};

@@ -1,4 +1,6 @@
 // Whether the buffers of a script suffice for a part of its input.
+#![tactic(auto)]
+
 ghost use Rattle.std.specs.Prelude.{◌≡◌};
 ghost use Rattle.script_input.specs.Machine.{is_ready_for};
 

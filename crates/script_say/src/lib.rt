@@ -1,4 +1,6 @@
 // The answer to a script's line, written as one line of text.
+#![tactic(auto)]
+
 ghost use Rattle.std.specs.Prelude.{◌≡◌, [], ◌∷◌, ◌++◌, ◌+◌, ◌≤◌, length};
 ghost use Rattle.refusal.specs.Refusals.{number_of};
 ghost use Rattle.writing.specs.Writing.{told_of, outcome, written, written_after};

@@ -1,5 +1,7 @@
 // The secondary map: values beside the keys of a table, in two lent arrays of one length. A slot of version 0 is vacant.
 // This crate has what the calls answer, the shape that each of them asks for first, and the count.
+#![tactic(auto)]
+
 ghost use Rattle.std.specs.Prelude.{◌≡◌};
 ghost use Rattle.map.specs.Map.{lengths_fit, has_shape};
 ghost use Rattle.map.specs.Calls.{len, is_empty};

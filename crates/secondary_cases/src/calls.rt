@@ -1,6 +1,6 @@
 // The calls on a secondary map, each answered in words. The arrays are the parts that are lent.
-use answers::Answer;
 use crate::STDOUT_FILENO;
+use answers::Answer;
 use lines::first;
 use map::MapHeader;
 use map_answers::{counted, slotted, stepped, tested, value};

@@ -1,6 +1,8 @@
 // Situations of the secondary map that are easy to get wrong, some on maps that are not whole, each run through the real arrays. A line of standard input is
 // a remark that says what the rules give, a line that bends the map, or a call; a remark is written as it stands, a call's answer after it. The letters are
 // those of the lists that the comparison replays, with `b` for fresh on what is lent and `q` for the check.
+#![tactic(auto)]
+
 mod calls;
 
 use map::MapHeader;

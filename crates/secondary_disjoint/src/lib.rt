@@ -1,5 +1,7 @@
 // The secondary map's slots of a list of keys, all there and all different. Each key's slot is marked, so that a repeated key is not there;
 // the marks are undone before the answer.
+#![tactic(auto)]
+
 ghost use Rattle.std.specs.Prelude.{◌≡◌, ℕ, ◌≤◌, ◌<◌, true, length, get_or};
 ghost use Rattle.lists.specs.Put.{put};
 ghost use Rattle.keys.specs.Keys.{idx};

@@ -1,4 +1,6 @@
 // The secondary map's insert: what it comes to is judged first, and only what is accepted is stored.
+#![tactic(auto)]
+
 ghost use Rattle.std.specs.Prelude.{◌≡◌, ◌≤◌, ◌<◌, length};
 ghost use Rattle.keys.specs.Keys.{far};
 ghost use Rattle.map.specs.Map.{grown, stored};

@@ -1,4 +1,6 @@
 // What an insert into a secondary map comes to, judged before anything is stored.
+#![tactic(auto)]
+
 ghost use Rattle.std.specs.Prelude.{◌≡◌, ◌≤◌};
 ghost use Rattle.map.specs.Map.{older};
 ghost use Rattle.map.specs.Calls.{settled, fate};

@@ -1,4 +1,6 @@
 // The secondary map's calls that take an element out. Each judges first, by a function on shared slices, and stores only what it has accepted.
+#![tactic(auto)]
+
 ghost use Rattle.std.specs.Prelude.{◌≡◌, ◌≤◌, ◌<◌, length};
 ghost use Rattle.map.specs.Map.{emptied};
 ghost use Rattle.map.specs.Calls.{leaving, remove, drain};

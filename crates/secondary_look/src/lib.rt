@@ -1,4 +1,6 @@
 // The secondary map's calls that look at one key, and store nothing.
+#![tactic(auto)]
+
 ghost use Rattle.std.specs.Prelude.{◌≡◌, ◌≤◌, length};
 ghost use Rattle.refusal.specs.Refusals.{number_of};
 ghost use Rattle.map.specs.Map.{is_there, absent};

@@ -1,4 +1,6 @@
 // The secondary map's step from element to element that only looks.
+#![tactic(auto)]
+
 ghost use Rattle.std.specs.Prelude.{◌≡◌, ◌≤◌, length};
 ghost use Rattle.map.specs.Calls.{ahead, peek};
 ghost use Rattle.secondary.specs.Answers.{lent_map, step_of};

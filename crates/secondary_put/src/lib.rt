@@ -1,4 +1,6 @@
 // The secondary map's short calls that store: fresh, which begins a map, and put, which overwrites a value.
+#![tactic(auto)]
+
 ghost use Rattle.std.specs.Prelude.{◌≡◌};
 ghost use Rattle.map.specs.Calls.{fresh, put};
 ghost use Rattle.secondary.specs.Answers.{lent_map, got_of};

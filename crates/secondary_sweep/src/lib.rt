@@ -1,4 +1,6 @@
 // The secondary map's calls over all elements: retain and clear.
+#![tactic(auto)]
+
 ghost use Rattle.std.specs.Prelude.{◌≡◌, ◌<◌};
 ghost use Rattle.rules.specs.Rules.{keeps_of};
 ghost use Rattle.map.specs.Whole.{Whole};

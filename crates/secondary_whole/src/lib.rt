@@ -1,4 +1,6 @@
 // The yes-or-no check of a whole secondary map: each slot is looked at once, and nothing is stored.
+#![tactic(auto)]
+
 ghost use Rattle.std.specs.Prelude.{◌≡◌};
 ghost use Rattle.map.specs.Whole.{is_whole};
 ghost use Rattle.secondary.specs.Answers.{lent_map};

@@ -1,5 +1,7 @@
 // The spells of the rules that print a key, write an image or rebuild one, through the real code. The remarks of standard input are the rules' own words, one
 // before each spell.
+#![tactic(auto)]
+
 use answers::{Answer, KEY};
 use dense::{Started, fresh};
 use image_read::rebuild;

@@ -1,4 +1,6 @@
 // A whole table or secondary map as lines in a lent buffer: the header, and each array with its name before it, past what the header counts too.
+#![tactic(auto)]
+
 ghost use Rattle.std.specs.Prelude.{◌≡◌};
 ghost use Rattle.pieces.specs.Pieces.{page, wrote_all};
 ghost use Rattle.state_lines.specs.States.{state_lines, map_state_lines};

@@ -1,5 +1,7 @@
 // All records of a slot image: how many slots there are, and what a judge keeps of them.
 // What the records have to say for a table (refusals 13 and 14) is for those who know the table.
+#![tactic(auto)]
+
 ghost use Rattle.std.specs.Prelude.{◌≡◌};
 ghost use Rattle.numbers_read.specs.Reading.{reading_of};
 ghost use Rattle.records.specs.Records.{count_of};

@@ -1,4 +1,6 @@
 // Decimal numbers and keys as text in a lent buffer, each written from a place on.
+#![tactic(auto)]
+
 ghost use Rattle.std.specs.Prelude.{◌≡◌, ◌+◌, ◌≤◌, length};
 ghost use Rattle.lists.specs.Put.{put};
 ghost use Rattle.writing.specs.Writing.{outcome, written};

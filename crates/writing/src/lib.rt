@@ -1,5 +1,7 @@
 // Bytes in a lent buffer: what every writer answers, and the writer of bytes as they stand.
 // The whole length is judged before the first byte is stored, so a refusal leaves the buffer as it was.
+#![tactic(auto)]
+
 ghost use Rattle.std.specs.Prelude.{◌≡◌, ◌+◌, ◌≤◌, leb, length};
 ghost use Rattle.lists.specs.Put.{put};
 ghost use Rattle.writing.specs.Writing.{outcome, written};

@@ -1,6 +1,5 @@
 -- `dense_disjoint::disjoint` meets its contract: the marks are undone, and the first key without a place is the first that is refused.
 use mathlib.Core.Path.{sym, ap, ◌∙◌}
-use borrow.Author.Rules.{scaled_Fits}
 use native.Mathlib.Omega.{arith}
 use lib.ListN.{length-take}
 use Rattle.lists.proofs.Tests.{refuted, confirmed}

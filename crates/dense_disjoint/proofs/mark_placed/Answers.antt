@@ -1,6 +1,5 @@
 -- `dense_disjoint::mark_placed` meets its contract: the keys so far are marked, and what is left to test gives the same refusal.
 use mathlib.Core.Path.{sym, ap, ◌∙◌}
-use Prim.Native.Nat.{◌-◌}
 use Rattle.table.proofs.Marking.{marking_begins, marking_goes, marking_stops, marking_ends}
 use Rattle.dense.specs.Answers.{judged_of}
 use Rattle.dense.proofs.Answers.{placed_at}

@@ -1,6 +1,5 @@
 -- `dense_disjoint::write_places` meets its contract: what is left to write gives the same whole at every turn.
 use mathlib.Core.Path.{refl, ap}
-use Prim.Native.Nat.{◌-◌}
 use native.Mathlib.Omega.{arith}
 use lib.ListN.{get_or, length-set}
 use Rattle.keys.specs.declared.KeyData.{KeyData}

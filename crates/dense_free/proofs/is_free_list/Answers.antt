@@ -2,7 +2,6 @@
 -- The measure is what is left of s steps.
 use borrow.Author.Rules.{rules}
 use mathlib.Core.Path.{◌∙◌}
-use Prim.Native.Nat.{◌-◌}
 use native.Mathlib.Omega.{arith}
 use Rattle.keys.proofs.Versions.{told-odd, told-even}
 use Rattle.table.proofs.Checking.{walk_start, walk_round, walk_low, walk_high, walk_odd, walk_turn, walk_end}

@@ -1,9 +1,7 @@
 -- `dense_free::waiting_slots` meets its contract. The loop's invariant: m of the slots below i have to be on the free list.
 use borrow.Author.Rules.{rules}
 use mathlib.Core.Path.{sym, ◌∙◌}
-use Prim.Native.Nat.{◌-◌}
 use Rattle.lists.proofs.Count.{tally_none, tally_yes, tally_no, tally_all}
-use Rattle.table.specs.Sound.{is_waiting}
 use Rattle.dense_free.proofs.waiting_slots.Goals as goal
 use Rattle.dense_free.proofs.waiting_slots.Goals.{then-is_waiting, else-is_waiting}
 
@@ -17,8 +15,8 @@ pub loop-i-preserved : goal.loop-i-preserved
 loop-i-preserved c = (
   search rules,
   elim c.if-is_waiting.branch [
-    then-is_waiting w ↦ tally_yes _ _ c.loop-i.invariant.1 (sym c.is_waiting.ensures ∙ w.if-is_waiting.true) w.m-is
-  | else-is_waiting w ↦ tally_no _ _ c.loop-i.invariant.1 (sym c.is_waiting.ensures ∙ w.if-is_waiting.false) w.m-is
+    | then-is_waiting w ↦ tally_yes _ _ c.loop-i.invariant.1 (sym c.is_waiting.ensures ∙ w.if-is_waiting.true) w.m-is
+    | else-is_waiting w ↦ tally_no _ _ c.loop-i.invariant.1 (sym c.is_waiting.ensures ∙ w.if-is_waiting.false) w.m-is
   ],
 )
 

@@ -1,6 +1,5 @@
 -- `dense_retain::sift` meets its contract.
 use mathlib.Core.Path.{ap}
-use Prim.Native.Nat.{◌-◌}
 use native.Mathlib.Omega.{arith}
 use Rattle.table.specs.Calls.{Out}
 use Rattle.table.proofs.Shape.{shape}

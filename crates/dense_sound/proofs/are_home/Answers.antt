@@ -1,10 +1,7 @@
 -- `dense_sound::are_home` meets its contract. The loop's invariant: every place below p is at home.
 use borrow.Author.Rules.{rules}
-use mathlib.Core.Bool.{true}
-use Prim.Native.Nat.{◌-◌}
 use Rattle.lists.proofs.Tests.{refuted, confirmed}
 use Rattle.lists.proofs.Count.{every-none, every_yes, every_no, every_all}
-use Rattle.table.specs.Sound.{is_home}
 use Rattle.dense_sound.proofs.are_home.Goals as goal
 
 pub loop-p-init : goal.loop-p-init

@@ -1,9 +1,7 @@
 -- `dense_sound::odd_slots` meets its contract. The loop's invariant: m of the slots below i have odd versions.
 use borrow.Author.Rules.{rules}
 use mathlib.Core.Path.{sym, ◌∙◌}
-use Prim.Native.Nat.{◌-◌}
 use Rattle.lists.proofs.Count.{tally_none, tally_yes, tally_no, tally_all}
-use Rattle.table.specs.Sound.{is_odd}
 use Rattle.dense_sound.proofs.odd_slots.Goals as goal
 use Rattle.dense_sound.proofs.odd_slots.Goals.{then-is_odd, else-is_odd}
 
@@ -14,8 +12,8 @@ pub loop-i-preserved : goal.loop-i-preserved
 loop-i-preserved c = (
   search rules,
   elim c.if-is_odd.branch [
-    then-is_odd w ↦ tally_yes _ _ c.loop-i.invariant.1 (sym c.is_odd.ensures ∙ w.if-is_odd.true) w.m-is
-  | else-is_odd w ↦ tally_no _ _ c.loop-i.invariant.1 (sym c.is_odd.ensures ∙ w.if-is_odd.false) w.m-is
+    | then-is_odd w ↦ tally_yes _ _ c.loop-i.invariant.1 (sym c.is_odd.ensures ∙ w.if-is_odd.true) w.m-is
+    | else-is_odd w ↦ tally_no _ _ c.loop-i.invariant.1 (sym c.is_odd.ensures ∙ w.if-is_odd.false) w.m-is
   ],
 )
 

@@ -1,7 +1,6 @@
 -- `number_at` reads digit by digit: the value so far, read on, is the value of all digits. A value above the limit is seen before it is made,
 -- and values only grow.
 use mathlib.Core.Path.{refl, sym, ◌∙◌}
-use Prim.Native.Nat.{◌-◌}
 use native.Mathlib.Omega.{arith}
 use Rattle.fields.proofs.Numbers.{turn-there, turn, turn_over, out_none, out-leads, out_zero, out-plain}
 use Rattle.fields.proofs.number_at.Goals as goal

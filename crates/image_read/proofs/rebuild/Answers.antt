@@ -10,7 +10,6 @@ use Rattle.image.proofs.Building.{starts, rebuild-shape, rebuild-refused, rebuil
 use Rattle.image_read.proofs.rebuild.Goals as goal
 
 one_more : (n : ℕ) → n * 8 < 2 ^ 63 → Fits w64 (n + 1)
-
 one_more n e = omega (arith, e)
 
 pub returns-then-not-lengths_fit : goal.returns-then-not-lengths_fit

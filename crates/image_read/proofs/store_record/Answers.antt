@@ -13,7 +13,6 @@ use Rattle.image.proofs.Storing.{stored-first, stored_vacant, stored-occupied}
 use Rattle.image_read.proofs.store_record.Goals as goal
 
 positive : (n : ℕ) → n ≢ 0 → 1 ≤ n
-
 positive n e = omega (arith, e)
 
 module _ (t : Table) (a : Room t) where

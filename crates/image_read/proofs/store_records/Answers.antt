@@ -1,7 +1,6 @@
 -- `store_records` meets its contract. The loop's invariant: the slots of the header have been stored, and the records of the others stand
 -- from `at` on. So no record is refused.
 use mathlib.Core.Path.{sym, ap, ◌∙◌}
-use Prim.Native.Nat.{◌-◌}
 use native.Mathlib.Omega.{arith}
 use Rattle.records.specs.Records.{record_of}
 use Rattle.table.specs.Table.{Table}

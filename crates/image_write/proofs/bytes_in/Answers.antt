@@ -1,6 +1,6 @@
 -- `bytes_in` meets its contract. The loop's invariant: the total is the length of what is written of the slots below i.
 use mathlib.Core.Path.{◌≡◌, sym, ap, ◌∙◌}
-use Prim.Native.Nat.{ℕ, ◌-◌, ◌≤◌}
+use Prim.Native.Nat.{ℕ, ◌≤◌}
 use native.Mathlib.Omega.{arith}
 use lib.ListN.{length}
 use Rattle.numbers.proofs.Encoded.{length_bound}

@@ -1,6 +1,5 @@
 -- `put_image` meets its contract. The loop's invariant: the slot count and the records of the slots below i stand at the buffer's front.
 --
-use Prim.Native.Nat.{◌-◌}
 use native.Mathlib.Omega.{arith}
 use Rattle.dense.specs.Lent.{table}
 use Rattle.image.proofs.Writing.{Front, front_count, front_more, front_all, front_length}

@@ -1,6 +1,5 @@
 -- `line_end` walks to the newline: the line from each place reached ends where the line asked for ends.
 use mathlib.Core.Path.{◌∙◌}
-use Prim.Native.Nat.{◌-◌}
 use native.Mathlib.Numerals.{add-one}
 use Rattle.lines.proofs.Lines.{line-end_at, line-end-on, line-end-last}
 use Rattle.lines.proofs.line_end.Goals as goal

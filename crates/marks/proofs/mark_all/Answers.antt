@@ -1,6 +1,5 @@
 -- `marks::mark_all` meets its contract: what is left to mark gives the same whole at every turn.
 use mathlib.Core.Path.{refl, ◌∙◌}
-use Prim.Native.Nat.{◌-◌}
 use native.Mathlib.Omega.{arith}
 use Rattle.marks.proofs.Turns.{marks_turn, marks_end}
 use Rattle.marks.proofs.mark_all.Goals as goal

@@ -1,5 +1,5 @@
 -- `mix_u8` walks the list: what is left of it is mixed into what has been reached.
-use Rattle.std.proofs.Common.{◌-◌, refl, rules}
+use Rattle.std.proofs.Common.{refl, rules}
 use Rattle.replay.specs.Digest.{mixed}
 use Rattle.replay.proofs.Walks.{walk_on, walk_end}
 use Rattle.replay.proofs.mix_u8.Goals as goal

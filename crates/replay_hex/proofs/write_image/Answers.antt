@@ -1,6 +1,5 @@
 -- `write_image` writes the bytes from their front: what is left of them, written from where the loop stands, gives the whole.
 use mathlib.Core.Path.{refl}
-use Prim.Native.Nat.{◌-◌}
 use borrow.Author.Rules.{rules}
 use Rattle.replay_hex.proofs.Images.{hex-turn, hex-end}
 use Rattle.replay_hex.proofs.write_image.Goals as goal

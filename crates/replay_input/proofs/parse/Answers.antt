@@ -1,5 +1,4 @@
 -- `parse` walks the line: what is left of it is taken into what has been reached.
-use Prim.Native.Nat.{◌-◌}
 use borrow.Author.Rules.{rules}
 use Rattle.replay.specs.Lines.{taken}
 use Rattle.replay.proofs.Walks.{walk_on, walk_end}

@@ -1,6 +1,5 @@
 -- `spell` writes the text from its front: what is left of it, spelled from where the loop stands, gives the whole.
 use mathlib.Core.Path.{refl}
-use Prim.Native.Nat.{◌-◌}
 use borrow.Author.Rules.{rules}
 use Rattle.replay_input.proofs.Spelled.{spelled-turn, spelled-end}
 use Rattle.replay_input.proofs.spell.Goals as goal

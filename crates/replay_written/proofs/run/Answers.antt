@@ -1,6 +1,5 @@
 -- `run` keeps the lengths of the arrays, and goes on to a later line with each turn.
 use mathlib.Core.Path.{sym, ◌∙◌}
-use Prim.Native.Nat.{◌-◌}
 use native.Mathlib.Omega.{arith}
 use Rattle.replay.proofs.Parts.{part_lent, part_back}
 use Rattle.replay_input.proofs.Places.{line-end_past}
@@ -47,11 +46,10 @@ loop-at-smaller c =
     omega (arith, c.line_end-at.ensures, c.loop-at-test.true, line-end_past c.args.input.now c.loop-at.at c.loop-at-test.true)
 
 pub loop-at-preserved : goal.loop-at-preserved
-loop-at-preserved c =
-    (
-      part_back 4100 c.cells.new.versions _ _ (c.cells.auto.versions ∙ c.loop-at.invariant.0) c.least-a.ensures c.call-made.new.versions c.call-made.auto.versions,
-      part_back 4100 c.cells.new.links _ _ (c.cells.auto.links ∙ c.loop-at.invariant.1) c.least-b.ensures c.call-made.new.links c.call-made.auto.links,
-      part_back 4100 c.cells.new.keys _ _ (c.cells.auto.keys ∙ c.loop-at.invariant.2) c.least-k.ensures c.call-made.new.keys c.call-made.auto.keys,
-      part_back 4100 c.cells.new.values _ _ (c.cells.auto.values ∙ c.loop-at.invariant.3) c.least-v.ensures c.call-made.new.values c.call-made.auto.values,
-      part_back 65600 c.loop-at.out _ _ c.loop-at.invariant.4 c.least-o.ensures c.call-made.new.out c.call-made.auto.out,
-    )
+loop-at-preserved c = (
+  part_back 4100 c.cells.new.versions _ _ (c.cells.auto.versions ∙ c.loop-at.invariant.0) c.least-a.ensures c.call-made.new.versions c.call-made.auto.versions,
+  part_back 4100 c.cells.new.links _ _ (c.cells.auto.links ∙ c.loop-at.invariant.1) c.least-b.ensures c.call-made.new.links c.call-made.auto.links,
+  part_back 4100 c.cells.new.keys _ _ (c.cells.auto.keys ∙ c.loop-at.invariant.2) c.least-k.ensures c.call-made.new.keys c.call-made.auto.keys,
+  part_back 4100 c.cells.new.values _ _ (c.cells.auto.values ∙ c.loop-at.invariant.3) c.least-v.ensures c.call-made.new.values c.call-made.auto.values,
+  part_back 65600 c.loop-at.out _ _ c.loop-at.invariant.4 c.least-o.ensures c.call-made.new.out c.call-made.auto.out,
+)

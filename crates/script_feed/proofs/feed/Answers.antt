@@ -1,6 +1,5 @@
 -- `feed` takes byte after byte: what the rest of the part brings is always what the whole part brings.
 use mathlib.Core.Path.{refl, ap, ◌∙◌}
-use Prim.Native.Nat.{◌-◌}
 use native.Mathlib.Omega.{arith}
 use Rattle.lists.proofs.Tests.{refuted, confirmed}
 use Rattle.script_input.specs.Machine.{ending}

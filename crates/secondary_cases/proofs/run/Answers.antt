@@ -1,6 +1,5 @@
 -- `run` keeps the lengths of the arrays, and goes on to a later line with each turn.
 use mathlib.Core.Path.{sym, ◌∙◌}
-use Prim.Native.Nat.{◌-◌}
 use native.Mathlib.Omega.{arith}
 use Rattle.replay.proofs.Parts.{part_lent, part_back}
 use Rattle.replay_input.proofs.Places.{line-end_past}
@@ -36,9 +35,8 @@ loop-at-smaller c =
     omega (arith, c.line_end-at.ensures, c.loop-at-test.true, line-end_past c.args.input.now c.loop-at.at c.loop-at-test.true)
 
 pub loop-at-preserved : goal.loop-at-preserved
-loop-at-preserved c =
-    (
-      part_back 4100 c.cell_u32.new.array _ _ (c.cell_u32.auto.array ∙ c.loop-at.invariant.0) c.least-a.ensures c.call-h.new.versions c.call-h.auto.versions,
-      part_back 4100 c.cell_u64.new.array _ _ (c.cell_u64.auto.array ∙ c.loop-at.invariant.1) c.least-v.ensures c.call-h.new.values c.call-h.auto.values,
-      c.ask-count.auto.wanted ∙ c.loop-at.invariant.2,
-    )
+loop-at-preserved c = (
+  part_back 4100 c.cell_u32.new.array _ _ (c.cell_u32.auto.array ∙ c.loop-at.invariant.0) c.least-a.ensures c.call-h.new.versions c.call-h.auto.versions,
+  part_back 4100 c.cell_u64.new.array _ _ (c.cell_u64.auto.array ∙ c.loop-at.invariant.1) c.least-v.ensures c.call-h.new.values c.call-h.auto.values,
+  c.ask-count.auto.wanted ∙ c.loop-at.invariant.2,
+)

@@ -1,6 +1,5 @@
 -- `secondary_disjoint::fill` meets its contract: each turn puts one slot into the output.
 use mathlib.Core.Path.{refl, ap}
-use Prim.Native.Nat.{◌-◌}
 use native.Mathlib.Omega.{arith}
 use lib.ListN.{length-set}
 use Rattle.keys.specs.declared.KeyData.{KeyData}

@@ -1,6 +1,5 @@
 -- `secondary_disjoint::mark` meets its contract: each turn marks one key more, or stops at the first that is not there.
 use mathlib.Core.Path.{sym, ap, ◌∙◌}
-use Prim.Native.Nat.{◌-◌}
 use native.Mathlib.Omega.{arith}
 use Rattle.secondary.specs.Answers.{found_of}
 use Rattle.map.proofs.Stands.{stands}

@@ -1,6 +1,6 @@
 -- `secondary_disjoint::unmark` meets its contract: each turn gives one slot its version back.
 use mathlib.Core.Path.{◌≡◌}
-use Prim.Native.Nat.{◌-◌, ◌≤◌}
+use Prim.Native.Nat.{◌≤◌}
 use lib.ListN.{length}
 use Rattle.secondary_disjoint.specs.Marks.{unmarked}
 use Rattle.secondary_disjoint.proofs.unmark.Given as goal

@@ -1,6 +1,5 @@
 -- `secondary_enter::grow` meets its contract: what is left to be made vacant gives the grown map.
 use mathlib.Core.Path.{refl, sym, ◌∙◌}
-use Prim.Native.Nat.{◌-◌}
 use native.Mathlib.Omega.{arith}
 use lib.ListN.{length-set}
 use Rattle.map.proofs.Grown.{zeros_turn, zeros_end, grown-below, grown_is}

@@ -1,6 +1,5 @@
 -- `secondary_peek::ahead` meets its contract: what is left of the search is the whole search.
 use mathlib.Core.Path.{sym, ◌∙◌}
-use Prim.Native.Nat.{◌-◌}
 use native.Mathlib.Omega.{arith}
 use Rattle.map.proofs.Seek.{seek-occupied, seek_vacant, seek-end, ahead_from}
 use Rattle.secondary_peek.proofs.ahead.Goals as goal

@@ -1,5 +1,4 @@
 -- `secondary_sweep::sieve_all` meets its contract: the slots that are left to be looked at give the run's result.
-use Prim.Native.Nat.{◌-◌}
 use native.Mathlib.Omega.{arith}
 use Rattle.secondary_sweep.proofs.Turns.{sieving_start, sieving_turn, sieving_end}
 use Rattle.secondary_sweep.proofs.sieve_all.Goals as goal

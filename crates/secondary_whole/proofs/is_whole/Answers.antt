@@ -1,6 +1,5 @@
 -- `secondary_whole::is_whole` meets its contract: the slots passed are counted and each is fit.
 use mathlib.Core.Path.{sym}
-use Prim.Native.Nat.{◌-◌}
 use native.Mathlib.Omega.{arith}
 use Rattle.lists.proofs.Tests.{refuted, confirmed}
 use Rattle.map.specs.Whole.{is_whole}
@@ -48,8 +47,8 @@ pub loop-i-preserved : goal.loop-i-preserved
 loop-i-preserved c = (
   omega arith,
   elim c.if-v-ne0.branch [
-    then-v-ne0+else-not-is_odd w ↦ rw w.n-is (scanned_odd _ _ _ c.loop-i.invariant.1 w.if-v-ne0.true (confirmed w.is_odd.ensures w.if-not-is_odd.false))
-  | else-v-ne0 w ↦ rw w.n-is (scanned_vacant _ _ _ c.loop-i.invariant.1 w.if-v-ne0.false)
+    | then-v-ne0+else-not-is_odd w ↦ rw w.n-is (scanned_odd _ _ _ c.loop-i.invariant.1 w.if-v-ne0.true (confirmed w.is_odd.ensures w.if-not-is_odd.false))
+    | else-v-ne0 w ↦ rw w.n-is (scanned_vacant _ _ _ c.loop-i.invariant.1 w.if-v-ne0.false)
   ],
 )
 

@@ -1,6 +1,6 @@
 -- `judge_from` meets its contract. The loop's invariant: what is kept of all records is what is kept of those left, after those read.
 --
-use Rattle.std.proofs.Common.{◌≡◌, ◌-◌}
+use Rattle.std.proofs.Common.{◌≡◌}
 use Rattle.summaries.specs.Summaries.{blank}
 use Rattle.summaries.proofs.Summaries.{keeping}
 use Rattle.summaries.proofs.judge_from.Given as goal

@@ -1,6 +1,5 @@
 -- `put_bytes` puts the text in from the front: what is left to put in gives the same whole at every turn.
 use mathlib.Core.Path.{refl}
-use Prim.Native.Nat.{◌-◌}
 use native.Mathlib.Omega.{arith}
 use lib.ListN.{length-set}
 use Rattle.lists.proofs.Put.{put-turn, put-end}

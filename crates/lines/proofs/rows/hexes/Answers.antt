@@ -1,6 +1,5 @@
 -- `hexes` writes the list from its front: what is left of it, written from where the loop stands, gives the whole.
 use mathlib.Core.Path.{refl}
-use Prim.Native.Nat.{◌-◌}
 use borrow.Author.Rules.{rules}
 use Rattle.pieces.specs.Pieces.{hex_text}
 use Rattle.lines.proofs.Lines.{row-turn, row-end}
