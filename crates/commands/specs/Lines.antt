@@ -87,7 +87,7 @@ asked line =
     (cond (eqb (get_or line 0 0) 108) (ended line 1 asks_len)
     (cond (eqb (get_or line 0 0) 105) (insert_of line (field_at most64 line 1)) (keyed_of line (get_or line 0 0) (key_in line))))
 
--- ---- the same from the other side: what a line looks like. A line is understood exactly where it is the text of a command (`Line-read`,
+-- ---- the same from the other side: what a line looks like. A line is understood exactly where it is the text of a command (`line_read`,
 -- `line-written` in proofs/Texts.antt)
 
 -- IDX and VER, each after a space, and what follows them

@@ -13,7 +13,7 @@ use Rattle.lists.specs.Count.{count}
 use Rattle.lists.specs.Put.{put}
 use Rattle.lists.specs.Listed.{listed, picked}
 use Rattle.lists.proofs.Put.{get_or-put_in, get_or-put-after}
-use Rattle.lists.proofs.Listed.{length-listed, get_or-listed, length-picked, get_d_picked, count-below, count_reaches}
+use Rattle.lists.proofs.Listed.{length-listed, get_or-listed, length-picked, get_or-picked, count-below, count_reaches}
 use Rattle.keys.specs.Keys.{W, idx, vsn, pack}
 use Rattle.keys.proofs.Keys.{idx-pack, vsn-pack}
 use Rattle.records.specs.declared.Record.{Record}
@@ -71,13 +71,13 @@ module _ (vs ls ks xs : List ℕ) (l : List Record) (g : Given vs ls ks xs l) wh
     unfolding rebuilt rebuilt_to
     key_at =
         front ks (picked (is_full l) (key_in l) (length l)) _ (omega (arith, length-picked (is_full l) (key_in l) (length l), count-below (is_full l) (length l) i h f))
-        ∙ get_d_picked (is_full l) (key_in l) (length l) i 0 h f
+        ∙ get_or-picked (is_full l) (key_in l) (length l) i 0 h f
 
     pub val_at : val t (count (is_full l) i) ≡ val_in l i
     unfolding rebuilt rebuilt_to
     val_at =
         front xs (picked (is_full l) (val_in l) (length l)) _ (omega (arith, length-picked (is_full l) (val_in l) (length l), count-below (is_full l) (length l) i h f))
-        ∙ get_d_picked (is_full l) (val_in l) (length l) i 0 h f
+        ∙ get_or-picked (is_full l) (val_in l) (length l) i 0 h f
 
     pub full-link : link t i ≡ count (is_full l) i
     full-link = link_at i h ∙ full_is l i f (λ v x e. occupied-link l i (full-low l i f) v x e)

@@ -162,7 +162,7 @@ image_is_given vs ls ks xs bytes l fit b e =
     by_answer (records_of bytes (length ks + 1)) fitting l e (λ m f g.
     let q = fitting-same m l g in
     let w = written_read bytes (length ks + 1) l b (f ∙ ap tells q) in
-    (record { fit = fit; fits = fitting-told bytes (length ks + 1) l e; few = w.few; words = w.fit }, w.bytes_of_lem))
+    (record { fit = fit; fits = fitting-told bytes (length ks + 1) l e; few = w.few; words = w.fit }, w.spelled))
 
 module _ (vs ls ks xs : List ℕ) (l : List Record) (g : Given vs ls ks xs l) where
   abbrev built : Table

@@ -1,6 +1,6 @@
 -- The slot image of a table, and writing it (the rules, section "The slot image"). Assumes nothing.
 --
--- The image of the table that insert 7, insert 300, remove 1v1 leaves is `03 00 00 02 00 01 01 Ac 02`: three slots, of which the last one
+-- The image of the table that insert 7, insert 300, remove 1v1 leaves is `03 00 00 02 00 01 01 AC 02`: three slots, of which the last one
 -- is occupied by 300.
 use Rattle.std.specs.Prelude.{cond, List, ℕ, length}
 use Rattle.lists.specs.Listed.{listed}

@@ -97,16 +97,16 @@ module _ {A : Type 0} (P : ℕ → Bool) (g : ℕ → A) where
       (λ e. rw e (length-append (picked P g n) (g n ∷ []) ∙ omega (arith, length-picked n)))
       (λ e. rw e (length-picked n))
 
-  pub get_d_picked : (n i : ℕ) (d : A) → i < n → P i ≡ true → get_or (picked P g n) (count P i) d ≡ g i
+  pub get_or-picked : (n i : ℕ) (d : A) → i < n → P i ≡ true → get_or (picked P g n) (count P i) d ≡ g i
   unfolding picked
-  get_d_picked zero i d h p = absurd (omega arith)
-  get_d_picked (suc n) i d h p =
+  get_or-picked zero i d h p = absurd (omega arith)
+  get_or-picked (suc n) i d h p =
       by_cases (ℕ_discrete i n)
       (λ e.
       let q : P n ≡ true = ap P (sym e) ∙ p in
       rw q (get_or_at (picked P g n) (g n) [] d (count P i) (length-picked n ∙ ap (count P) (sym e)) ∙ ap g (sym e)))
       (λ ne.
-      let r = get_d_picked n i d (omega arith) p in
+      let r = get_or-picked n i d (omega arith) p in
       split (P n)
       (λ q. rw q (get_or-append (picked P g n) (g n ∷ []) d (count P i) (omega (arith, length-picked n, count-below P n i (omega arith) p)) ∙ r))
       (λ q. rw q r))
@@ -129,7 +129,7 @@ mem_picked P g (suc n) x m =
 
 pub picked_mem : (P : ℕ → Bool) (g : ℕ → ℕ) (n i : ℕ) → i < n → P i ≡ true → Memᴰ (g i) (picked P g n)
 picked_mem P g n i h p =
-    mathlib.Core.List.Memᴰ.cast (sym (get_d_picked P g n i 0 h p)) (get_or_mem (picked P g n) (count P i) (omega (arith, length-picked P g n, count-below P n i h p)))
+    mathlib.Core.List.Memᴰ.cast (sym (get_or-picked P g n i 0 h p)) (get_or_mem (picked P g n) (count P i) (omega (arith, length-picked P g n, count-below P n i h p)))
 
 -- different numbers are picked once
 pub once-picked : (P : ℕ → Bool) (g : ℕ → ℕ) (n : ℕ) → ((i j : ℕ) → i < n → j < n → P i ≡ true → P j ≡ true → g i ≡ g j → i ≡ j) → Once (picked P g n)

@@ -164,7 +164,7 @@ whole s most c n l m bytes e f k h =
     let a = encode_decode 32 s 0 c n bytes d.0 in
     let b = records_form c s n l m bytes f in
     record {
-      bytes_of_lem = a.0 ∙ ap₂ (λ (x : ℕ) (t : List ℕ). encoded x ++ t) (sym k) (b.starts ∙ ap (λ (t : List ℕ). list_bytes l ++ t) (drop_of_length-le s h) ∙ append-nil (list_bytes l));
+      spelled = a.0 ∙ ap₂ (λ (x : ℕ) (t : List ℕ). encoded x ++ t) (sym k) (b.starts ∙ ap (λ (t : List ℕ). list_bytes l ++ t) (drop_of_length-le s h) ∙ append-nil (list_bytes l));
       few = omega (arith, d.1);
       small = omega (arith, number_fits 32 s 0 c n d.0);
       fit = b.fit;

@@ -96,7 +96,7 @@ pub data Fault : ℕ → Type 0 where
 
 -- an accepted image is the bytes of its records, which are not too many and of machine numbers
 pub record Accepted (s : List ℕ) (most : ℕ) (l : List Record) : Type 0 where
-  pub bytes_of_lem : s ≡ bytes_of l
+  pub spelled : s ≡ bytes_of l
   pub few : length l ≤ most
   pub small : length l < 2 ^ 32
   pub fit : FitAll l

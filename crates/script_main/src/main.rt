@@ -1,5 +1,5 @@
 // The script program: runs the lines of standard input on a fresh table and writes their answers to standard output.
-// A program here has no exit status of its own: what fails is said on standard error, and the program then ends.
+// The program ends with status 0 whatever happens: what fails is said on standard error.
 #![tactic(auto)]
 
 ghost use Rattle.std.specs.Prelude.{◌≤◌, length, IfSome};

@@ -43,10 +43,10 @@ module _ (t : Table) where
     unfolding next_in head_is_free
     next_crowded e l h n = simp tests
 
-    pub next_free : ver t t.head.f % 2 ≡ 0 → 1 ≤ link t t.head.f → link t t.head.f ≤ t.head.s → t.head.n < t.head.s - 1
+    pub next_free_lem : ver t t.head.f % 2 ≡ 0 → 1 ≤ link t t.head.f → link t t.head.f ≤ t.head.s → t.head.n < t.head.s - 1
         → found (pack t.head.f (odd (ver t t.head.f))) ≡ next_in t
     unfolding next_in head_is_free
-    next_free e l h n = simp tests
+    next_free_lem e l h n = simp tests
 
   pub next-full : t.head.s ≤ t.head.f → cap t < t.head.s → fails 3 ≡ next_in t
   unfolding next_in

@@ -38,8 +38,8 @@ pub record Leaves (t u : Table) (i : ℕ) : Type 0 where
 -- ---- an orderly table stays so
 
 module _ (t u : Table) (a : Orderly t) (i : ℕ) (oi : Occupied t i) (c : Leaves t u i) where
-  place_in : link t i < t.head.n
-  place_in = (a.odds i oi.high oi.odd).0
+  place_in_lem : link t i < t.head.n
+  place_in_lem = (a.odds i oi.high oi.odd).0
 
   place-key : idx (key t (link t i)) ≡ i
   place-key = (a.odds i oi.high oi.odd).1
@@ -71,7 +71,7 @@ module _ (t u : Table) (a : Orderly t) (i : ℕ) (oi : Occupied t i) (c : Leaves
       (λ e.
       let lk : link u k ≡ link t i = ap (link u) e ∙ c.link-moved (λ x. ni (e ∙ x)) in
       let np : link t i ≢ u.head.n = λ x. ni (e ∙ ap (λ (m : ℕ). idx (key t m)) (sym x) ∙ place-key) in
-      (omega (arith, lk, np, place_in, c.count), ap (λ (m : ℕ). idx (key u m)) lk ∙ ap idx c.key-moved ∙ sym e))
+      (omega (arith, lk, np, place_in_lem, c.count), ap (λ (m : ℕ). idx (key u m)) lk ∙ ap idx c.key-moved ∙ sym e))
       (λ ne.
       let lk : link u k ≡ link t k = c.link_off k ni ne in
       let np : link t k ≢ link t i = λ x. ni (sym ok.1 ∙ ap (λ (m : ℕ). idx (key t m)) x ∙ place-key) in

@@ -19,19 +19,20 @@ loop-i-init c =
 pub slot_record-slot-requires : goal.slot_record-slot-requires
 slot_record-slot-requires c = (c.requires, c.loop-i-test.true)
 
--- a slot's bytes
-
 pub overflow_add-total : goal.overflow_add-total
-overflow_add-total c = omega (arith, (let h : c.record_len-total.result ≤ 16 = omega (arith, length-record c.slot_record-slot.result c.slot_record-slot.ensures.1, c.record_len-total.ensures) in h), shape _ (passes_shape _ c.requires))
+overflow_add-total c =
+    let few : c.record_len-total.result ≤ 16 = omega (arith, length-record c.slot_record-slot.result c.slot_record-slot.ensures.1, c.record_len-total.ensures) in
+    omega (arith, few, shape _ (passes_shape _ c.requires))
 
 pub loop-i-smaller : goal.loop-i-smaller
 loop-i-smaller c = omega (arith, c.loop-i-test.true)
 
 pub loop-i-preserved : goal.loop-i-preserved
 loop-i-preserved c =
+    let few : c.record_len-total.result ≤ 16 = omega (arith, length-record c.slot_record-slot.result c.slot_record-slot.ensures.1, c.record_len-total.ensures) in
     let l = c.loop-i in
     let t = table c.args.versions.now c.args.links.now c.args.keys.now c.args.values.now c.args.h in
-    (omega (arith, c.loop-i-test.true), omega (arith, l.invariant.1, c.record_len-total.ensures, so_far-longer t l.i c.slot_record-slot.ensures.0), omega (arith, (let h : c.record_len-total.result ≤ 16 = omega (arith, length-record c.slot_record-slot.result c.slot_record-slot.ensures.1, c.record_len-total.ensures) in h)))
+    (omega (arith, c.loop-i-test.true), omega (arith, l.invariant.1, c.record_len-total.ensures, so_far-longer t l.i c.slot_record-slot.ensures.0), omega (arith, few))
 
 pub returns : goal.returns
 returns c =

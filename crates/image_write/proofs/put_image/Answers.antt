@@ -1,5 +1,4 @@
 -- `put_image` meets its contract. The loop's invariant: the slot count and the records of the slots below i stand at the buffer's front.
---
 use native.Mathlib.Omega.{arith}
 use Rattle.dense.specs.Lent.{table}
 use Rattle.image.proofs.Writing.{Front, front_count, front_more, front_all, front_length}
@@ -23,10 +22,12 @@ loop-i-preserved c =
           front_more t b h l.i c.loop-i-test.true (l.invariant.1 b h f) _ c.slot_record-slot.ensures.0 c.write_record-written.ensures c.place_after-at-in-loop-i.ensures,
     )
 
--- what stands (let h : Front (table c.args.versions.now c.args.links.now c.args.keys.now c.args.values.now c.args.h) c.args.out.now c.loop-i.i c.loop-i.out c.loop-i.at = c.loop-i.invariant.1 c.args.out.now c.requires.1 (front_count _ _ c.requires.1 c.write_number-count.ensures c.place_after-at.ensures) in h) the loop is reached
-
 pub shape_of-out : goal.shape_of-out
-shape_of-out c = front_length _ _ c.requires.1 c.loop-i.invariant.0 ((let h : Front (table c.args.versions.now c.args.links.now c.args.keys.now c.args.values.now c.args.h) c.args.out.now c.loop-i.i c.loop-i.out c.loop-i.at = c.loop-i.invariant.1 c.args.out.now c.requires.1 (front_count _ _ c.requires.1 c.write_number-count.ensures c.place_after-at.ensures) in h))
+shape_of-out c =
+    let front : Front (table c.args.versions.now c.args.links.now c.args.keys.now c.args.values.now c.args.h) c.args.out.now c.loop-i.i c.loop-i.out c.loop-i.at = c.loop-i.invariant.1 c.args.out.now c.requires.1 (front_count _ _ c.requires.1 c.write_number-count.ensures c.place_after-at.ensures) in
+    front_length _ _ c.requires.1 c.loop-i.invariant.0 front
 
 pub returns : goal.returns
-returns c = front_all _ _ c.requires.1 (omega (arith, c.loop-i.invariant.0, c.loop-i-test.false)) ((let h : Front (table c.args.versions.now c.args.links.now c.args.keys.now c.args.values.now c.args.h) c.args.out.now c.loop-i.i c.loop-i.out c.loop-i.at = c.loop-i.invariant.1 c.args.out.now c.requires.1 (front_count _ _ c.requires.1 c.write_number-count.ensures c.place_after-at.ensures) in h))
+returns c =
+    let front : Front (table c.args.versions.now c.args.links.now c.args.keys.now c.args.values.now c.args.h) c.args.out.now c.loop-i.i c.loop-i.out c.loop-i.at = c.loop-i.invariant.1 c.args.out.now c.requires.1 (front_count _ _ c.requires.1 c.write_number-count.ensures c.place_after-at.ensures) in
+    front_all _ _ c.requires.1 (omega (arith, c.loop-i.invariant.0, c.loop-i-test.false)) front

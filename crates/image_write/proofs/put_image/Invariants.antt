@@ -1,5 +1,4 @@
 -- `put_image` meets its contract. The loop's invariant: the slot count and the records of the slots below i stand at the buffer's front.
---
 use mathlib.Core.List.{List}
 use Prim.Native.Nat.{ℕ, ◌-◌, ◌≤◌}
 use lib.ListN.{length}

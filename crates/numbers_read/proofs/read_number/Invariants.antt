@@ -11,5 +11,3 @@ invariant-loop-place l =
 
 abbrev pub decreases-loop-place : goal.decreases-loop-place
 decreases-loop-place l = length l.bytes - l.place
-
--- a turn, from what the call answered

@@ -1,5 +1,4 @@
 -- `put_number` meets its contract. The loop's invariant: putting what is left from `place` on leaves what putting n from `at` on leaves.
---
 use mathlib.Core.Path.{refl, ◌∙◌}
 use native.Mathlib.Omega.{arith}
 use lib.ListN.{length-set}

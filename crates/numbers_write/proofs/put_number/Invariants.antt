@@ -1,5 +1,4 @@
 -- `put_number` meets its contract. The loop's invariant: putting what is left from `place` on leaves what putting n from `at` on leaves.
---
 use Prim.Native.Nat.{◌+◌}
 use mathlib.Core.Path.{◌≡◌}
 use lib.ListN.{length}

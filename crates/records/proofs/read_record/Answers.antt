@@ -9,18 +9,23 @@ use Rattle.records.proofs.read_record.Goals as goal
 
 pub overflow_cast-version : goal.overflow_cast-version
 overflow_cast-version c =
+    let first : number_at 32 c.args.bytes.now c.args.at ≡ tells (c.in-Read.v, c.in-Read.behind) = sym c.read_u32.ensures ∙ ap reading_of c.in-Read.is in
     let a = c.args in
-    record { fits = number_fits 32 a.bytes.now a.at _ _ ((let h : number_at 32 c.args.bytes.now c.args.at ≡ tells (c.in-Read.v, c.in-Read.behind) = sym c.read_u32.ensures ∙ ap reading_of c.in-Read.is in h)) }
+    record { fits = number_fits 32 a.bytes.now a.at _ _ first }
 
 pub returns-then-presence-eq0 : goal.returns-then-presence-eq0
 returns-then-presence-eq0 c =
+    let first : number_at 32 c.args.bytes.now c.args.at ≡ tells (c.in-Read.v, c.in-Read.behind) = sym c.read_u32.ensures ∙ ap reading_of c.in-Read.is in
+    let second : number_at 32 c.args.bytes.now c.in-Read.behind ≡ tells (c.in-Read-read_u32.presence, c.in-Read-read_u32.last) = sym c.read_u32-in-Read.ensures ∙ ap reading_of c.in-Read-read_u32.is in
     let a = c.args in
-    sym (vacant a.bytes.now a.at _ _ ((let h : number_at 32 c.args.bytes.now c.args.at ≡ tells (c.in-Read.v, c.in-Read.behind) = sym c.read_u32.ensures ∙ ap reading_of c.in-Read.is in h)) _ _ ((let h : number_at 32 c.args.bytes.now c.in-Read.behind ≡ tells (c.in-Read-read_u32.presence, c.in-Read-read_u32.last) = sym c.read_u32-in-Read.ensures ∙ ap reading_of c.in-Read-read_u32.is in h)) c.if-presence-eq0.true)
+    sym (vacant a.bytes.now a.at _ _ first _ _ second c.if-presence-eq0.true)
 
 pub returns-then-presence-ne1 : goal.returns-then-presence-ne1
 returns-then-presence-ne1 c =
+    let first : number_at 32 c.args.bytes.now c.args.at ≡ tells (c.in-Read.v, c.in-Read.behind) = sym c.read_u32.ensures ∙ ap reading_of c.in-Read.is in
+    let second : number_at 32 c.args.bytes.now c.in-Read.behind ≡ tells (c.in-Read-read_u32.presence, c.in-Read-read_u32.last) = sym c.read_u32-in-Read.ensures ∙ ap reading_of c.in-Read-read_u32.is in
     let a = c.args in
-    sym (neither a.bytes.now a.at _ _ ((let h : number_at 32 c.args.bytes.now c.args.at ≡ tells (c.in-Read.v, c.in-Read.behind) = sym c.read_u32.ensures ∙ ap reading_of c.in-Read.is in h)) _ _ ((let h : number_at 32 c.args.bytes.now c.in-Read.behind ≡ tells (c.in-Read-read_u32.presence, c.in-Read-read_u32.last) = sym c.read_u32-in-Read.ensures ∙ ap reading_of c.in-Read-read_u32.is in h)) c.if-presence-eq0.false c.if-presence-ne1.true)
+    sym (neither a.bytes.now a.at _ _ first _ _ second c.if-presence-eq0.false c.if-presence-ne1.true)
 
 pub returns-in-Refused : goal.returns-in-Refused
 returns-in-Refused c =
@@ -29,17 +34,22 @@ returns-in-Refused c =
 
 pub returns-in-Refused-read_u32 : goal.returns-in-Refused-read_u32
 returns-in-Refused-read_u32 c =
+    let first : number_at 32 c.args.bytes.now c.args.at ≡ tells (c.in-Read.v, c.in-Read.behind) = sym c.read_u32.ensures ∙ ap reading_of c.in-Read.is in
     let a = c.args in
-    sym (no_presence a.bytes.now a.at _ _ ((let h : number_at 32 c.args.bytes.now c.args.at ≡ tells (c.in-Read.v, c.in-Read.behind) = sym c.read_u32.ensures ∙ ap reading_of c.in-Read.is in h)) _ (sym c.read_u32-in-Read.ensures ∙ ap reading_of c.in-Refused-read_u32.is))
+    sym (no_presence a.bytes.now a.at _ _ first _ (sym c.read_u32-in-Read.ensures ∙ ap reading_of c.in-Refused-read_u32.is))
 
 pub returns-in-Refused-read_u64 : goal.returns-in-Refused-read_u64
 returns-in-Refused-read_u64 c =
+    let first : number_at 32 c.args.bytes.now c.args.at ≡ tells (c.in-Read.v, c.in-Read.behind) = sym c.read_u32.ensures ∙ ap reading_of c.in-Read.is in
+    let second : number_at 32 c.args.bytes.now c.in-Read.behind ≡ tells (c.in-Read-read_u32.presence, c.in-Read-read_u32.last) = sym c.read_u32-in-Read.ensures ∙ ap reading_of c.in-Read-read_u32.is in
     let a = c.args in
-    sym (no_value a.bytes.now a.at _ _ ((let h : number_at 32 c.args.bytes.now c.args.at ≡ tells (c.in-Read.v, c.in-Read.behind) = sym c.read_u32.ensures ∙ ap reading_of c.in-Read.is in h)) _ _ ((let h : number_at 32 c.args.bytes.now c.in-Read.behind ≡ tells (c.in-Read-read_u32.presence, c.in-Read-read_u32.last) = sym c.read_u32-in-Read.ensures ∙ ap reading_of c.in-Read-read_u32.is in h)) c.if-presence-eq0.false c.if-presence-ne1.false _
+    sym (no_value a.bytes.now a.at _ _ first _ _ second c.if-presence-eq0.false c.if-presence-ne1.false _
     (sym c.read_u64.ensures ∙ ap reading_of c.in-Refused-read_u64.is))
 
 pub returns-in-Read-read_u64 : goal.returns-in-Read-read_u64
 returns-in-Read-read_u64 c =
+    let first : number_at 32 c.args.bytes.now c.args.at ≡ tells (c.in-Read.v, c.in-Read.behind) = sym c.read_u32.ensures ∙ ap reading_of c.in-Read.is in
+    let second : number_at 32 c.args.bytes.now c.in-Read.behind ≡ tells (c.in-Read-read_u32.presence, c.in-Read-read_u32.last) = sym c.read_u32-in-Read.ensures ∙ ap reading_of c.in-Read-read_u32.is in
     let a = c.args in
-    sym (occupied a.bytes.now a.at _ _ ((let h : number_at 32 c.args.bytes.now c.args.at ≡ tells (c.in-Read.v, c.in-Read.behind) = sym c.read_u32.ensures ∙ ap reading_of c.in-Read.is in h)) _ _ ((let h : number_at 32 c.args.bytes.now c.in-Read.behind ≡ tells (c.in-Read-read_u32.presence, c.in-Read-read_u32.last) = sym c.read_u32-in-Read.ensures ∙ ap reading_of c.in-Read-read_u32.is in h)) c.if-presence-eq0.false c.if-presence-ne1.false _ _
+    sym (occupied a.bytes.now a.at _ _ first _ _ second c.if-presence-eq0.false c.if-presence-ne1.false _ _
     (sym c.read_u64.ensures ∙ ap reading_of c.in-Read-read_u64.is))

@@ -7,10 +7,10 @@ pub returns-in-Insert : goal.returns-in-Insert
 returns-in-Insert c = acts_insert _ _ _ _ _ c.of_inserted.ensures c.in-Insert.is c.insert.ensures
 
 pub returns-in-Remove : goal.returns-in-Remove
-returns-in-Remove c = acts_remove _ _ _ _ _ c.of_removed.ensures c.in-Remove.is c.remove.ensures
+returns-in-Remove c = search acts_remove
 
 pub returns-in-Detach : goal.returns-in-Detach
-returns-in-Detach c = acts_detach _ _ _ _ _ c.of_removed-in-Detach.ensures c.in-Detach.is c.detach.ensures
+returns-in-Detach c = search acts_detach
 
 pub returns-in-Reattach : goal.returns-in-Reattach
 returns-in-Reattach c = acts_reattach _ _ _ _ _ c.of_changed.ensures c.in-Reattach.is c.reattach.ensures

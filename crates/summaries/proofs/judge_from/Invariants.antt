@@ -1,5 +1,4 @@
 -- `judge_from` meets its contract. The loop's invariant: what is kept of all records is what is kept of those left, after those read.
---
 use Rattle.std.proofs.Common.{◌≡◌}
 use Rattle.summaries.specs.Summaries.{blank}
 use Rattle.summaries.proofs.Summaries.{keeping}
@@ -10,5 +9,3 @@ invariant-loop-left l = keeping l.count l.bytes l.from blank ≡ keeping l.left 
 
 abbrev pub decreases-loop-left : goal.decreases-loop-left
 decreases-loop-left l = l.left
-
--- a turn and an end, by how many records are l.left

@@ -10,8 +10,9 @@ use Rattle.summaries.proofs.judge_records.Goals as goal
 
 pub overflow_cast-value : goal.overflow_cast-value
 overflow_cast-value c =
+    let counted : count_of c.args.bytes.now c.args.most ≡ tells (c.in-Read.value, c.in-Read.next) = sym c.read_count.ensures ∙ ap reading_of c.in-Read.is in
     let a = c.args in
-    record { fits = number_fits 32 a.bytes.now 0 _ _ (count-is a.bytes.now a.most _ _ ((let h : count_of c.args.bytes.now c.args.most ≡ tells (c.in-Read.value, c.in-Read.next) = sym c.read_count.ensures ∙ ap reading_of c.in-Read.is in h))).0 }
+    record { fits = number_fits 32 a.bytes.now 0 _ _ (count-is a.bytes.now a.most _ _ counted).0 }
 
 pub returns-in-Refused : goal.returns-in-Refused
 unfolding judged_of
@@ -22,5 +23,6 @@ returns-in-Refused c =
 pub returns-in-Read : goal.returns-in-Read
 unfolding judged_of
 returns-in-Read c =
+    let counted : count_of c.args.bytes.now c.args.most ≡ tells (c.in-Read.value, c.in-Read.next) = sym c.read_count.ensures ∙ ap reading_of c.in-Read.is in
     let a = c.args in
-    c.judge_from.ensures ∙ sym (ap (λ (x : Told (ℕ × ℕ)). onward x (λ y. judged_from y.0 a.bytes.now y.1)) ((let h : count_of c.args.bytes.now c.args.most ≡ tells (c.in-Read.value, c.in-Read.next) = sym c.read_count.ensures ∙ ap reading_of c.in-Read.is in h)))
+    c.judge_from.ensures ∙ sym (ap (λ (x : Told (ℕ × ℕ)). onward x (λ y. judged_from y.0 a.bytes.now y.1)) counted)

@@ -8,8 +8,9 @@ use Rattle.summaries.proofs.read_count.Goals as goal
 
 pub returns-then-most-value : goal.returns-then-most-value
 returns-then-most-value c =
+    let first : number_at 32 c.args.bytes.now 0 ≡ tells (c.in-Read.value, c.in-Read.next) = sym c.read_u32.ensures ∙ ap reading_of c.in-Read.is in
     let a = c.args in
-    sym (too_many a.bytes.now a.most _ _ ((let h : number_at 32 c.args.bytes.now 0 ≡ tells (c.in-Read.value, c.in-Read.next) = sym c.read_u32.ensures ∙ ap reading_of c.in-Read.is in h)) c.if-most-value.true)
+    sym (too_many a.bytes.now a.most _ _ first c.if-most-value.true)
 
 pub returns-in-Refused : goal.returns-in-Refused
 returns-in-Refused c =
@@ -18,5 +19,6 @@ returns-in-Refused c =
 
 pub returns-else-most-value : goal.returns-else-most-value
 returns-else-most-value c =
+    let first : number_at 32 c.args.bytes.now 0 ≡ tells (c.in-Read.value, c.in-Read.next) = sym c.read_u32.ensures ∙ ap reading_of c.in-Read.is in
     let a = c.args in
-    sym (counted a.bytes.now a.most _ _ ((let h : number_at 32 c.args.bytes.now 0 ≡ tells (c.in-Read.value, c.in-Read.next) = sym c.read_u32.ensures ∙ ap reading_of c.in-Read.is in h)) c.if-most-value.false)
+    sym (counted a.bytes.now a.most _ _ first c.if-most-value.false)

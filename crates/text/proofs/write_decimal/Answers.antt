@@ -15,11 +15,14 @@ returns-then-not-has_room c =
     no_room-written s.at _ (decimal s.number) s.out.now c.decimal_len-count.ensures (refuted c.has_room.ensures c.if-not-has_room.true)
 
 pub overflow_add-end : goal.overflow_add-end
-overflow_add-end c = omega (arith, (let h : let s = c.args in s.at + c.decimal_len-count.result ≤ length s.out.now = leb-true _ _ (confirmed c.has_room.ensures c.if-not-has_room.false) in h))
+overflow_add-end c =
+    let room : c.args.at + c.decimal_len-count.result ≤ length c.args.out.now = leb-true _ _ (confirmed c.has_room.ensures c.if-not-has_room.false) in
+    omega (arith, room)
 
 pub put_decimal-requires : goal.put_decimal-requires
 put_decimal-requires c =
-    (ap (λ (n : ℕ). c.args.at + n) c.decimal_len-count.ensures, (let h : let s = c.args in s.at + c.decimal_len-count.result ≤ length s.out.now = leb-true _ _ (confirmed c.has_room.ensures c.if-not-has_room.false) in h))
+    let room : c.args.at + c.decimal_len-count.result ≤ length c.args.out.now = leb-true _ _ (confirmed c.has_room.ensures c.if-not-has_room.false) in
+    (ap (λ (n : ℕ). c.args.at + n) c.decimal_len-count.ensures, room)
 
 pub returns : goal.returns
 returns c =

@@ -17,75 +17,54 @@ pub returns-then-is_null : goal.returns-then-is_null
 returns-then-is_null c =
     rw (key-text-null c.args.key (sym c.is_null.ensures ∙ c.if-is_null.true)) c.write_bytes.ensures
 
--- where the two counts are known: the key is not null, and its text has so many bytes
-
 pub overflow_add-count : goal.overflow_add-count
-overflow_add-count c = omega (
-  arith,
-  (let h : c.decimal_len-index.result + 1 + c.decimal_len-version.result ≤ 41 = let k = ((c.before.before.before.before.before.before.before)).args.key in
-      omega (arith, length-decimal_64 k.idx (omega arith), length-decimal_64 k.version (omega arith), c.decimal_len-index.ensures, c.decimal_len-version.ensures) in h),
-)
+overflow_add-count c =
+    let k = c.args.key in
+    let few : c.decimal_len-index.result + 1 + c.decimal_len-version.result ≤ 41 = omega (arith, length-decimal_64 k.idx (omega arith), length-decimal_64 k.version (omega arith), c.decimal_len-index.ensures, c.decimal_len-version.ensures) in
+    omega (arith, few)
 
 pub overflow_add-count-2 : goal.overflow_add-count-2
-overflow_add-count-2 c = omega (
-  arith,
-  (let h : c.decimal_len-index.result + 1 + c.decimal_len-version.result ≤ 41 = let k = ((c.before.before.before.before.before.before.before)).args.key in
-      omega (arith, length-decimal_64 k.idx (omega arith), length-decimal_64 k.version (omega arith), c.decimal_len-index.ensures, c.decimal_len-version.ensures) in h),
-)
+overflow_add-count-2 c =
+    let k = c.args.key in
+    let few : c.decimal_len-index.result + 1 + c.decimal_len-version.result ≤ 41 = omega (arith, length-decimal_64 k.idx (omega arith), length-decimal_64 k.version (omega arith), c.decimal_len-index.ensures, c.decimal_len-version.ensures) in
+    omega (arith, few)
 
 pub returns-then-not-has_room : goal.returns-then-not-has_room
 returns-then-not-has_room c =
-    let s = ((c.before.before.before.before.before.before.before)).args in
-    no_room-written s.at _ (key_text s.key) s.out.now ((let h : c.decimal_len-index.result + 1 + c.decimal_len-version.result ≡ length (key_text ((c.before.before.before.before.before.before.before)).args.key) = omega (arith, key-text-length ((c.before.before.before.before.before.before.before)).args.key ((let h : is_null ((c.before.before.before.before.before.before.before)).args.key ≡ false = sym c.is_null.ensures ∙ c.if-is_null.false in h)), c.decimal_len-index.ensures, c.decimal_len-version.ensures) in h)) (refuted c.has_room.ensures c.if-not-has_room.true)
+    let plain : is_null c.args.key ≡ false = sym c.is_null.ensures ∙ c.if-is_null.false in
+    let long : c.decimal_len-index.result + 1 + c.decimal_len-version.result ≡ length (key_text c.args.key) = omega (arith, key-text-length c.args.key plain, c.decimal_len-index.ensures, c.decimal_len-version.ensures) in
+    let s = c.args in
+    no_room-written s.at _ (key_text s.key) s.out.now long (refuted c.has_room.ensures c.if-not-has_room.true)
 
 pub overflow_add-letter : goal.overflow_add-letter
-overflow_add-letter c = omega (
-  arith,
-  (let h : let s = ((c.before.before.before.before.before.before.before)).args in
-      s.at + (c.decimal_len-index.result + 1 + c.decimal_len-version.result) ≤ length s.out.now = leb-true _ _ (confirmed c.has_room.ensures c.if-not-has_room.false) in h),
-)
+overflow_add-letter c =
+    let room : c.args.at + (c.decimal_len-index.result + 1 + c.decimal_len-version.result) ≤ length c.args.out.now = leb-true _ _ (confirmed c.has_room.ensures c.if-not-has_room.false) in
+    omega (arith, room)
 
 pub overflow_add-end : goal.overflow_add-end
-overflow_add-end c = omega (
-  arith,
-  (let h : let s = ((c.before.before.before.before.before.before.before)).args in
-      s.at + (c.decimal_len-index.result + 1 + c.decimal_len-version.result) ≤ length s.out.now = leb-true _ _ (confirmed c.has_room.ensures c.if-not-has_room.false) in h),
-)
+overflow_add-end c =
+    let room : c.args.at + (c.decimal_len-index.result + 1 + c.decimal_len-version.result) ≤ length c.args.out.now = leb-true _ _ (confirmed c.has_room.ensures c.if-not-has_room.false) in
+    omega (arith, room)
 
 pub put_decimal-requires : goal.put_decimal-requires
-put_decimal-requires c = (
-  ap (λ (n : ℕ). ((c.before.before.before.before.before.before.before)).args.at + n) c.decimal_len-index.ensures,
-  omega (
-    arith,
-    (let h : let s = ((c.before.before.before.before.before.before.before)).args in
-        s.at + (c.decimal_len-index.result + 1 + c.decimal_len-version.result) ≤ length s.out.now = leb-true _ _ (confirmed c.has_room.ensures c.if-not-has_room.false) in h),
-  ),
-)
+put_decimal-requires c =
+    let room : c.args.at + (c.decimal_len-index.result + 1 + c.decimal_len-version.result) ≤ length c.args.out.now = leb-true _ _ (confirmed c.has_room.ensures c.if-not-has_room.false) in
+    (ap (λ (n : ℕ). c.args.at + n) c.decimal_len-index.ensures, omega (arith, room))
 
 pub bounds-out-letter : goal.bounds-out-letter
-bounds-out-letter c = omega (
-  arith,
-  (let h : let s = ((c.before.before.before.before.before.before.before)).args in
-      s.at + (c.decimal_len-index.result + 1 + c.decimal_len-version.result) ≤ length s.out.now = leb-true _ _ (confirmed c.has_room.ensures c.if-not-has_room.false) in h),
-)
+bounds-out-letter c =
+    let room : c.args.at + (c.decimal_len-index.result + 1 + c.decimal_len-version.result) ≤ length c.args.out.now = leb-true _ _ (confirmed c.has_room.ensures c.if-not-has_room.false) in
+    omega (arith, room)
 
 pub overflow_add-letter-2 : goal.overflow_add-letter-2
-overflow_add-letter-2 c = omega (
-  arith,
-  (let h : let s = ((c.before.before.before.before.before.before.before)).args in
-      s.at + (c.decimal_len-index.result + 1 + c.decimal_len-version.result) ≤ length s.out.now = leb-true _ _ (confirmed c.has_room.ensures c.if-not-has_room.false) in h),
-)
+overflow_add-letter-2 c =
+    let room : c.args.at + (c.decimal_len-index.result + 1 + c.decimal_len-version.result) ≤ length c.args.out.now = leb-true _ _ (confirmed c.has_room.ensures c.if-not-has_room.false) in
+    omega (arith, room)
 
 pub put_decimal-requires-2 : goal.put_decimal-requires-2
-put_decimal-requires-2 c = (
-  omega (arith, c.decimal_len-version.ensures),
-  simp length-set (omega (
-    arith,
-    (let h : let s = ((c.before.before.before.before.before.before.before)).args in
-        s.at + (c.decimal_len-index.result + 1 + c.decimal_len-version.result) ≤ length s.out.now = leb-true _ _ (confirmed c.has_room.ensures c.if-not-has_room.false) in h),
-    c.put_decimal.auto.out,
-  )),
-)
+put_decimal-requires-2 c =
+    let room : c.args.at + (c.decimal_len-index.result + 1 + c.decimal_len-version.result) ≤ length c.args.out.now = leb-true _ _ (confirmed c.has_room.ensures c.if-not-has_room.false) in
+    (omega (arith, c.decimal_len-version.ensures), simp length-set (omega (arith, room, c.put_decimal.auto.out)))
 
 pub shape_of-out : goal.shape_of-out
 shape_of-out c =
@@ -93,13 +72,11 @@ shape_of-out c =
 
 pub returns : goal.returns
 returns c =
-    let s = ((c.before.before.before.before.before.before.before)).args in
+    let plain : is_null c.args.key ≡ false = sym c.is_null.ensures ∙ c.if-is_null.false in
+    let long : c.decimal_len-index.result + 1 + c.decimal_len-version.result ≡ length (key_text c.args.key) = omega (arith, key-text-length c.args.key plain, c.decimal_len-index.ensures, c.decimal_len-version.ensures) in
+    let room : c.args.at + (c.decimal_len-index.result + 1 + c.decimal_len-version.result) ≤ length c.args.out.now = leb-true _ _ (confirmed c.has_room.ensures c.if-not-has_room.false) in
+    let s = c.args in
     let first = c.decimal_len-index in
-    room-written s.at _ (key_text s.key) s.out.now ((let h : c.decimal_len-index.result + 1 + c.decimal_len-version.result ≡ length (key_text ((c.before.before.before.before.before.before.before)).args.key) = omega (arith, key-text-length ((c.before.before.before.before.before.before.before)).args.key ((let h : is_null ((c.before.before.before.before.before.before.before)).args.key ≡ false = sym c.is_null.ensures ∙ c.if-is_null.false in h)), c.decimal_len-index.ensures, c.decimal_len-version.ensures) in h)) _ (confirmed c.has_room.ensures c.if-not-has_room.false)
-    (key-text-put s.key ((let h : is_null ((c.before.before.before.before.before.before.before)).args.key ≡ false = sym c.is_null.ensures ∙ c.if-is_null.false in h)) s.out.now _ _ s.at (s.at + first.result) (ap (λ (n : ℕ). s.at + n) first.ensures)
-    (omega (
-      arith,
-      (let h : let s = ((c.before.before.before.before.before.before.before)).args in
-          s.at + (c.decimal_len-index.result + 1 + c.decimal_len-version.result) ≤ length s.out.now = leb-true _ _ (confirmed c.has_room.ensures c.if-not-has_room.false) in h),
-      c.decimal_len-version.ensures,
-    )) c.put_decimal.ensures c.put_decimal-2.ensures)
+    room-written s.at _ (key_text s.key) s.out.now long _ (confirmed c.has_room.ensures c.if-not-has_room.false)
+    (key-text-put s.key plain s.out.now _ _ s.at (s.at + first.result) (ap (λ (n : ℕ). s.at + n) first.ensures)
+    (omega (arith, room, c.decimal_len-version.ensures)) c.put_decimal.ensures c.put_decimal-2.ensures)
