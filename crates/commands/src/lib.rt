@@ -50,6 +50,7 @@ fn key_of(line: &[u8]) -> Number
 }
 
 // The command of a letter that a key alone follows.
+#[tactic(auto, unfolding(crate::specs::Lines::plain_of), using(std::proofs::lemmas::Bool::Decides::nat_tests))]
 fn plain(letter: u8, key: u64) -> Command
     ensures { asked_of result ≡ plain_of letter key }
 {
@@ -114,6 +115,7 @@ fn keyed(line: &[u8], letter: u8) -> Command
 }
 
 // The command of a line, without its newline.
+#[tactic(auto, unfolding(crate::specs::Lines::asked), using(std::proofs::lemmas::Bool::Decides::nat_tests))]
 pub fn parse(line: &[u8]) -> Command
     ensures { asked_of result ≡ asked line.now }
 {

@@ -83,6 +83,7 @@ pub struct Changed {
 }
 
 // Whether the arrays' lengths fit one another: C keys and values, C + 1 versions and links.
+#[tactic(auto, unfolding(table::specs::Table::lengths_fit), using(std::proofs::lemmas::Bool::Decides::nat_tests))]
 pub fn lengths_fit(versions: &[u32], links: &[u32], keys: &[u64], values: &[u64]) -> bool
     ensures { result ≡ lengths_fit versions.now links.now keys.now values.now }
 {
@@ -172,6 +173,7 @@ fn dead(
 }
 
 // The place of a key, on a table that has its shape.
+#[tactic(auto, unfolding(table::specs::Calls::place_in, table::specs::Table::is_held), using(std::proofs::lemmas::Bool::Decides::nat_tests))]
 fn place_in(
     h: Header,
     versions: &[u32],

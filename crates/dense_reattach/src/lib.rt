@@ -16,6 +16,7 @@ use refusal::Refusal;
 use table::Header;
 
 // The detached slot of a key, on a table that has its shape.
+#[tactic(auto, unfolding(table::specs::Calls::berth_in, table::specs::Table::is_detached), using(std::proofs::lemmas::Bool::Decides::nat_tests))]
 fn berth_in(
     h: Header,
     versions: &[u32],

@@ -13,6 +13,7 @@ pub enum Number {
 }
 
 // The digit at a place of a line; 10 where there is none.
+#[tactic(auto, unfolding(text::specs::Text::digit_of), using(std::proofs::lemmas::Bool::Decides::nat_tests))]
 fn digit_at(line: &[u8], i: usize) -> u64
     ensures { result ≡ digit_of (get_or line.now i 0) }
 {
@@ -60,6 +61,7 @@ fn number_at(line: &[u8], at: usize, limit: u64) -> Number
 }
 
 // A space at a place of a line, and a number after it.
+#[tactic(auto, unfolding(crate::specs::Fields::field_at), using(std::proofs::lemmas::Bool::Decides::nat_tests))]
 pub fn field(line: &[u8], at: usize, limit: u64) -> Number
     ensures { result ≡ field_at limit line.now at }
 {

@@ -25,6 +25,7 @@ fn first_wrong(version: u32, presence: u32) -> bool
 }
 
 // Judges a whole image of at most `most` slots: the faults of its records, then the first record, then the others' occupation.
+#[tactic(auto, unfolding(image::specs::Rebuild::judged_at, image::specs::Rebuild::fitting_summary), using(std::proofs::lemmas::Bool::Decides::nat_tests))]
 pub fn judge(bytes: &[u8], most: usize) -> Judged
     ensures { judgement_of result ≡ judged_at bytes.now most }
 {

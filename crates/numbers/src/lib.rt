@@ -32,6 +32,7 @@ fn wide(b: u8) -> u64
 
 // Takes the next byte of a number of at most `limit`. What the number is at least, with this byte, is compared with the limit
 // by a shift to the right, which cannot overflow; after ten groups no number of 64 bits goes on.
+#[tactic(auto, unfolding(crate::specs::Numbers::take_of), using(std::proofs::lemmas::Bool::Decides::nat_tests))]
 pub fn take_byte(state: Partial, b: u8, limit: u64) -> Taken
     ensures { step_of result ≡ take_of limit state b }
 {

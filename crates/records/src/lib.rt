@@ -26,6 +26,7 @@ pub enum RecordRead {
 }
 
 // The record that stands at a place. Its presence is read as a whole number before it is judged.
+#[tactic(auto, unfolding(crate::specs::Records::record_at), using(std::proofs::lemmas::Bool::Decides::nat_tests))]
 pub fn read_record(bytes: &[u8], at: usize) -> RecordRead
     ensures { record_of result ≡ record_at bytes.now at }
 {

@@ -55,6 +55,7 @@ impl Line {
     }
 
     // The line with a byte more. Its newline says nothing.
+    #[tactic(auto, unfolding(crate::specs::Lines::taken), using(std::proofs::lemmas::Bool::Decides::nat_tests))]
     pub fn take(self, byte: u8) -> Line
         ensures { result ≡ taken self byte }
     {
@@ -100,6 +101,7 @@ impl Line {
     }
 
     // The rule of a retain.
+    #[tactic(auto, unfolding(crate::specs::Lines::rule_of), using(std::proofs::lemmas::Bool::Decides::nat_tests))]
     pub fn rule(self) -> Rule
         ensures { result ≡ rule_of self }
     {

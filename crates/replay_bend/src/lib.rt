@@ -152,6 +152,7 @@ pub fn header(h: Header, line: Line) -> Header
 }
 
 // The keys that the next disjoint asks for: a line names one more, a disjoint takes them all. Answers how many there are.
+#[tactic(auto, unfolding(crate::specs::Bends::asked), using(std::proofs::lemmas::Bool::Decides::nat_tests))]
 pub fn ask(wanted: &mut [u64], count: usize, line: Line) -> usize
     ensures { asking result wanted.new ≡ asked line count wanted.old }
 {

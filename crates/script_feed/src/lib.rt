@@ -143,6 +143,7 @@ pub fn feed(
 }
 
 // Ends the input: a line that has begun is its last, and is run.
+#[tactic(auto, unfolding(script_input::specs::Machine::finished), using(std::proofs::lemmas::Bool::Decides::nat_tests))]
 pub fn finish(
     h: Header,
     versions: &mut [u32],

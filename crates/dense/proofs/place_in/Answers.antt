@@ -1,10 +1,9 @@
 -- `dense::place_in` meets its contract: live first, then held.
 use native.Mathlib.Omega.{arith}
-use mathlib.Core.Path.{◌∙◌, sym}
 use Rattle.lists.proofs.Tests.{refuted, confirmed}
 use Rattle.table.specs.Calls.{place_in}
 use Rattle.table.proofs.Judged.{live}
-use Rattle.table.proofs.Judging.{place-beyond, place_other, place-held}
+use Rattle.table.proofs.Judging.{place-beyond}
 use Rattle.dense.proofs.place_in.Goals as goal
 
 pub returns-then-not-is_live : goal.returns-then-not-is_live
@@ -16,9 +15,3 @@ bounds-links-key c = omega (arith, live _ _ _ (confirmed c.is_live.ensures c.if-
 
 pub returns-then-h-p : goal.returns-then-h-p
 returns-then-h-p c = place-beyond _ _ _ (confirmed c.is_live.ensures c.if-not-is_live.false) c.if-h-p.true
-
-pub returns-then-keys-q : goal.returns-then-keys-q
-returns-then-keys-q c = place_other _ _ _ (confirmed c.is_live.ensures c.if-not-is_live.false) c.if-h-p.false (λ e. c.if-keys-q.true (e ∙ sym c.as_ffi.ensures))
-
-pub returns : goal.returns
-returns c = place-held _ _ _ (confirmed c.is_live.ensures c.if-not-is_live.false) c.if-h-p.false (c.if-keys-q.false ∙ c.as_ffi.ensures)

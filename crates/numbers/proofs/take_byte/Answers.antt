@@ -7,7 +7,7 @@ use Rattle.std.proofs.Common.{rules}
 use lib.Pow.{pow_pos, pow_mono}
 use Rattle.writing.specs.Told.{tells, refused}
 use Rattle.numbers.specs.Numbers.{whole, more, worth, least, take_of}
-use Rattle.numbers.proofs.Numbers.{part, take-low, take-high, take_last, take_more, least_pos, least-none, least-some}
+use Rattle.numbers.proofs.Numbers.{part, take-high, take_last, take_more, least_pos, least-none, least-some}
 use Rattle.numbers.proofs.take_byte.Goals as goal
 use Rattle.numbers.proofs.take_byte.Goals.{then-b-eq0+else-groups-gt0, else-b-eq0}
 
@@ -40,11 +40,6 @@ module _ (limit v g b : ℕ) (l : least g ≤ b) where
 
       goes : 128 ≤ b → tells (more (part (v + b % 128 * worth g % 2 ^ 64) (g + 1))) ≡ take_of limit (part v g) b
       goes k = rw (shifted (b % 128) (omega arith)) (sym (take_more limit v g b l within k))
-
-pub returns-then-groups-gt0 : goal.returns-then-groups-gt0
-returns-then-groups-gt0 c =
-    let a = c.args in
-    sym (take-low a.limit a.state.value a.state.groups a.b (rw (least_pos a.state.groups c.if-groups-gt0.true) (omega arith)))
 
 pub returns-then-groups-gt9 : goal.returns-then-groups-gt9
 returns-then-groups-gt9 c =

@@ -4,7 +4,7 @@ use Rattle.writing.specs.Told.{tells}
 use Rattle.numbers_read.specs.Reading.{reading_of}
 use Rattle.numbers.specs.Numbers.{number_at}
 use Rattle.numbers.proofs.Bounds.{number_fits}
-use Rattle.records.proofs.Records.{no_version, no_presence, vacant, neither, no_value, occupied}
+use Rattle.records.proofs.Records.{no_version, no_presence, vacant}
 use Rattle.records.proofs.read_record.Goals as goal
 
 pub overflow_cast-version : goal.overflow_cast-version
@@ -20,13 +20,6 @@ returns-then-presence-eq0 c =
     let a = c.args in
     sym (vacant a.bytes.now a.at _ _ first _ _ second c.if-presence-eq0.true)
 
-pub returns-then-presence-ne1 : goal.returns-then-presence-ne1
-returns-then-presence-ne1 c =
-    let first : number_at 32 c.args.bytes.now c.args.at ≡ tells (c.in-Read.v, c.in-Read.behind) = sym c.read_u32.ensures ∙ ap reading_of c.in-Read.is in
-    let second : number_at 32 c.args.bytes.now c.in-Read.behind ≡ tells (c.in-Read-read_u32.presence, c.in-Read-read_u32.last) = sym c.read_u32-in-Read.ensures ∙ ap reading_of c.in-Read-read_u32.is in
-    let a = c.args in
-    sym (neither a.bytes.now a.at _ _ first _ _ second c.if-presence-eq0.false c.if-presence-ne1.true)
-
 pub returns-in-Refused : goal.returns-in-Refused
 returns-in-Refused c =
     let a = c.args in
@@ -37,19 +30,3 @@ returns-in-Refused-read_u32 c =
     let first : number_at 32 c.args.bytes.now c.args.at ≡ tells (c.in-Read.v, c.in-Read.behind) = sym c.read_u32.ensures ∙ ap reading_of c.in-Read.is in
     let a = c.args in
     sym (no_presence a.bytes.now a.at _ _ first _ (sym c.read_u32-in-Read.ensures ∙ ap reading_of c.in-Refused-read_u32.is))
-
-pub returns-in-Refused-read_u64 : goal.returns-in-Refused-read_u64
-returns-in-Refused-read_u64 c =
-    let first : number_at 32 c.args.bytes.now c.args.at ≡ tells (c.in-Read.v, c.in-Read.behind) = sym c.read_u32.ensures ∙ ap reading_of c.in-Read.is in
-    let second : number_at 32 c.args.bytes.now c.in-Read.behind ≡ tells (c.in-Read-read_u32.presence, c.in-Read-read_u32.last) = sym c.read_u32-in-Read.ensures ∙ ap reading_of c.in-Read-read_u32.is in
-    let a = c.args in
-    sym (no_value a.bytes.now a.at _ _ first _ _ second c.if-presence-eq0.false c.if-presence-ne1.false _
-    (sym c.read_u64.ensures ∙ ap reading_of c.in-Refused-read_u64.is))
-
-pub returns-in-Read-read_u64 : goal.returns-in-Read-read_u64
-returns-in-Read-read_u64 c =
-    let first : number_at 32 c.args.bytes.now c.args.at ≡ tells (c.in-Read.v, c.in-Read.behind) = sym c.read_u32.ensures ∙ ap reading_of c.in-Read.is in
-    let second : number_at 32 c.args.bytes.now c.in-Read.behind ≡ tells (c.in-Read-read_u32.presence, c.in-Read-read_u32.last) = sym c.read_u32-in-Read.ensures ∙ ap reading_of c.in-Read-read_u32.is in
-    let a = c.args in
-    sym (occupied a.bytes.now a.at _ _ first _ _ second c.if-presence-eq0.false c.if-presence-ne1.false _ _
-    (sym c.read_u64.ensures ∙ ap reading_of c.in-Read-read_u64.is))
