@@ -68,6 +68,7 @@ fn odd_slots(h: Header, versions: &[u32], links: &[u32], keys: &[u64], values: &
 }
 
 // The check of a table that has its shape.
+#[tactic(auto, using(crate::proofs::Checks::checks))]
 fn is_sound_in(h: Header, versions: &[u32], links: &[u32], keys: &[u64], values: &[u64]) -> bool
     requires { Shape (table versions.now links.now keys.now values.now h) }
     ensures { result ≡ is_sound (table versions.now links.now keys.now values.now h) }

@@ -49,6 +49,7 @@ fn settle(slots: u32, elements: u32, there: u32, version: u32) -> Fate
 }
 
 // A slot that is yet to be made is vacant, whatever stands there.
+#[tactic(auto, unfolding(map::specs::Calls::fate), using(std::proofs::lemmas::Bool::Decides::nat_tests))]
 pub fn judge_insert(h: MapHeader, versions: &[u32], values: &[u64], key: KeyData) -> Fate
     ensures { fate_of result ≡ fate (lent_map versions.now values.now h) key }
 {

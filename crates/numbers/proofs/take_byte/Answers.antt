@@ -9,7 +9,6 @@ use Rattle.writing.specs.Told.{tells, refused}
 use Rattle.numbers.specs.Numbers.{whole, more, worth, least, take_of}
 use Rattle.numbers.proofs.Numbers.{part, take-high, take_last, take_more, least_pos, least-none, least-some}
 use Rattle.numbers.proofs.take_byte.Goals as goal
-use Rattle.numbers.proofs.take_byte.Goals.{then-b-eq0+else-groups-gt0, else-b-eq0}
 
 module _ (limit v g b : ℕ) (l : least g ≤ b) where
   -- the groups of a number of 64 bits are ten at most
@@ -44,19 +43,19 @@ module _ (limit v g b : ℕ) (l : least g ≤ b) where
 pub returns-then-groups-gt9 : goal.returns-then-groups-gt9
 returns-then-groups-gt9 c =
     let a = c.args in
-    let low : least a.state.groups ≤ a.b = elim c.if-b-eq0.branch [ then-b-eq0+else-groups-gt0 w ↦ least-none a.state.groups a.b w.if-groups-gt0.false | else-b-eq0 w ↦ least-some a.state.groups a.b w.if-b-eq0.false ] in
+    let low : least a.state.groups ≤ a.b = grind (arith, least-none, least-some) in
     beyond a.limit a.state.value a.state.groups a.b low (search rules) (omega arith)
 
 pub returns-then-limit-value : goal.returns-then-limit-value
 returns-then-limit-value c =
     let a = c.args in
-    let low : least a.state.groups ≤ a.b = elim c.if-b-eq0.branch [ then-b-eq0+else-groups-gt0 w ↦ least-none a.state.groups a.b w.if-groups-gt0.false | else-b-eq0 w ↦ least-some a.state.groups a.b w.if-b-eq0.false ] in
+    let low : least a.state.groups ≤ a.b = grind (arith, least-none, least-some) in
     above a.limit a.state.value a.state.groups a.b low c.if-limit-value.true
 
 pub returns-then-limit-value-2 : goal.returns-then-limit-value-2
 returns-then-limit-value-2 c =
     let a = c.args in
-    let low : least a.state.groups ≤ a.b = elim c.if-b-eq0.branch [ then-b-eq0+else-groups-gt0 w ↦ least-none a.state.groups a.b w.if-groups-gt0.false | else-b-eq0 w ↦ least-some a.state.groups a.b w.if-b-eq0.false ] in
+    let low : least a.state.groups ≤ a.b = grind (arith, least-none, least-some) in
     let low-wide : least a.state.groups ≤ c.wide-group.result = rw c.wide-group.ensures low in
     large a.limit a.state.value a.state.groups c.wide-group.result low-wide (search rules) (search rules) c.if-limit-value-2.true
     ∙ ap (take_of a.limit a.state) c.wide-group.ensures
@@ -64,14 +63,14 @@ returns-then-limit-value-2 c =
 pub overflow_add-result : goal.overflow_add-result
 overflow_add-result c =
     let a = c.args in
-    let low : least a.state.groups ≤ a.b = elim c.if-b-eq0.branch [ then-b-eq0+else-groups-gt0 w ↦ least-none a.state.groups a.b w.if-groups-gt0.false | else-b-eq0 w ↦ least-some a.state.groups a.b w.if-b-eq0.false ] in
+    let low : least a.state.groups ≤ a.b = grind (arith, least-none, least-some) in
     let low-wide : least a.state.groups ≤ c.wide-group.result = rw c.wide-group.ensures low in
     record { fits = room a.limit a.state.value a.state.groups c.wide-group.result low-wide (search rules) (search rules) c.if-limit-value-2.false c.wide-group.result (omega arith) }
 
 pub returns-then-group-lt128 : goal.returns-then-group-lt128
 returns-then-group-lt128 c =
     let a = c.args in
-    let low : least a.state.groups ≤ a.b = elim c.if-b-eq0.branch [ then-b-eq0+else-groups-gt0 w ↦ least-none a.state.groups a.b w.if-groups-gt0.false | else-b-eq0 w ↦ least-some a.state.groups a.b w.if-b-eq0.false ] in
+    let low : least a.state.groups ≤ a.b = grind (arith, least-none, least-some) in
     let low-wide : least a.state.groups ≤ c.wide-group.result = rw c.wide-group.ensures low in
     ends a.limit a.state.value a.state.groups c.wide-group.result low-wide (search rules) (search rules) c.if-limit-value-2.false c.if-group-lt128.true
     ∙ ap (take_of a.limit a.state) c.wide-group.ensures
@@ -79,14 +78,14 @@ returns-then-group-lt128 c =
 pub overflow_add-result-2 : goal.overflow_add-result-2
 overflow_add-result-2 c =
     let a = c.args in
-    let low : least a.state.groups ≤ a.b = elim c.if-b-eq0.branch [ then-b-eq0+else-groups-gt0 w ↦ least-none a.state.groups a.b w.if-groups-gt0.false | else-b-eq0 w ↦ least-some a.state.groups a.b w.if-b-eq0.false ] in
+    let low : least a.state.groups ≤ a.b = grind (arith, least-none, least-some) in
     let low-wide : least a.state.groups ≤ c.wide-group.result = rw c.wide-group.ensures low in
     record { fits = room a.limit a.state.value a.state.groups c.wide-group.result low-wide (search rules) (search rules) c.if-limit-value-2.false (c.wide-group.result % 128) (omega arith) }
 
 pub returns : goal.returns
 returns c =
     let a = c.args in
-    let low : least a.state.groups ≤ a.b = elim c.if-b-eq0.branch [ then-b-eq0+else-groups-gt0 w ↦ least-none a.state.groups a.b w.if-groups-gt0.false | else-b-eq0 w ↦ least-some a.state.groups a.b w.if-b-eq0.false ] in
+    let low : least a.state.groups ≤ a.b = grind (arith, least-none, least-some) in
     let low-wide : least a.state.groups ≤ c.wide-group.result = rw c.wide-group.ensures low in
     goes a.limit a.state.value a.state.groups c.wide-group.result low-wide (search rules) (search rules) c.if-limit-value-2.false c.if-group-lt128.false
     ∙ ap (take_of a.limit a.state) c.wide-group.ensures

@@ -1,10 +1,11 @@
 -- `secondary_judge::judge_insert` meets its contract: each return is a case of the definition.
+use Rattle.std.proofs.Common.{rules}
 use mathlib.Core.Path.{sym, ◌∙◌}
 use native.Mathlib.Omega.{arith}
 use Rattle.lists.proofs.Tests.{refuted, confirmed}
 use Rattle.map.specs.Calls.{fate}
 use Rattle.map.proofs.Shaped.{shaped}
-use Rattle.map.proofs.Fates.{fate-null, fate_zero, fate-far, fate-below, fate_above}
+use Rattle.map.proofs.Fates.{fate-null, fate-below, fate_above}
 use Rattle.secondary_judge.proofs.judge_insert.Goals as goal
 
 pub returns-then-not-shape : goal.returns-then-not-shape
@@ -15,25 +16,6 @@ pub returns-then-is_null : goal.returns-then-is_null
 returns-then-is_null c = sym (fate-null _ _ (confirmed c.shape.ensures c.if-not-shape.false) (sym
     c.is_null.ensures ∙ c.if-is_null.true))
 
-pub returns-then-key-eq0 : goal.returns-then-key-eq0
-returns-then-key-eq0 c = sym (fate_zero _ _ (confirmed c.shape.ensures
-    c.if-not-shape.false) (sym c.is_null.ensures
-    ∙ c.if-is_null.false) c.if-key-eq0.true)
-
-pub returns-then-versions-i : goal.returns-then-versions-i
-returns-then-versions-i c = sym (fate-far _ _ (confirmed c.shape.ensures
-    c.if-not-shape.false) (sym c.is_null.ensures
-    ∙ c.if-is_null.false) c.if-key-eq0.false c.if-versions-i.true)
-
-pub returns-then-key-h : goal.returns-then-key-h
-returns-then-key-h c = c.settle.ensures ∙ sym (fate-below _ _ (confirmed
-    c.shape.ensures
-    c.if-not-shape.false) (sym
-    c.is_null.ensures
-    ∙ c.if-is_null.false)
-    c.if-key-eq0.false c.if-versions-i.false
-    c.if-key-h.true)
-
 pub overflow_add-key : goal.overflow_add-key
 overflow_add-key c = omega (
   arith,
@@ -42,11 +24,20 @@ overflow_add-key c = omega (
       c.if-not-shape.false),
 )
 
+pub returns-then-key-h : goal.returns-then-key-h
+returns-then-key-h c = c.settle.ensures ∙ sym (fate-below _ _ (confirmed
+    c.shape.ensures
+    c.if-not-shape.false) (sym
+    c.is_null.ensures
+    ∙ c.if-is_null.false)
+    (search rules) c.if-versions-i.false
+    c.if-key-h.true)
+
 pub returns : goal.returns
 returns c = c.settle-2.ensures ∙ sym (fate_above _ _ (confirmed
     c.shape.ensures
     c.if-not-shape.false) (sym
     c.is_null.ensures
     ∙ c.if-is_null.false)
-    c.if-key-eq0.false c.if-versions-i.false
+    (search rules) c.if-versions-i.false
     c.if-key-h.false)
