@@ -1,6 +1,6 @@
 -- `judge` meets its contract: what is kept of the records, then 13, then 14.
 use mathlib.Core.Path.{◌≡◌, sym, ap, ◌∙◌}
-use mathlib.Core.Bool.{true, false}
+use mathlib.Core.Bool.{true}
 use mathlib.Core.Logic.{◌≢◌}
 use mathlib.Core.List.{List}
 use Prim.Native.Nat.{ℕ}
@@ -25,15 +25,6 @@ module _ (s : List ℕ) (most : ℕ) where
       first : first_wrong kept.version kept.presence ≡ true → refused 13 ≡ judged_at s most
       unfolding judged_at fitting_summary
       first f = rw (e, ne_eqb _ _ some, f)
-
-      module _ (f : first_wrong kept.version kept.presence ≡ false) where
-        wrong : kept.wrong ≢ 0 → refused 14 ≡ judged_at s most
-        unfolding judged_at fitting_summary
-        wrong g = rw (e, ne_eqb _ _ some, f, ne_eqb _ _ g)
-
-        fine : kept.wrong ≡ 0 → tells (from, kept) ≡ judged_at s most
-        unfolding judged_at fitting_summary
-        fine g = rw (e, ne_eqb _ _ some, f, eq-eqb _ _ g)
 
 pub returns-then-summary-eq0 : goal.returns-then-summary-eq0
 returns-then-summary-eq0 c = none _ _ _ _ (sym c.judge_records.ensures ∙ ap judgement_of c.in-Fine.is) c.if-summary-eq0.true

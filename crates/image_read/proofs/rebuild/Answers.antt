@@ -1,16 +1,9 @@
 -- `rebuild` meets its contract: the lengths, the image's faults, and then the stores.
-use Prim.Native.Nat.{ℕ, ◌+◌, ◌*◌, ◌<◌, ◌^◌}
-use native.Mathlib.Omega.{arith}
-use mir.Syntax.{w64}
-use mir.Val.{Fits}
 use mathlib.Core.Path.{sym, ap, ◌∙◌}
 use Rattle.lists.proofs.Tests.{refuted, confirmed}
 use Rattle.summaries.specs.Summaries.{judgement_of}
 use Rattle.image.proofs.Building.{starts, rebuild-shape, rebuild-refused, rebuild-told}
 use Rattle.image_read.proofs.rebuild.Goals as goal
-
-one_more : (n : ℕ) → n * 8 < 2 ^ 63 → Fits w64 (n + 1)
-one_more n e = omega (arith, e)
 
 pub returns-then-not-lengths_fit : goal.returns-then-not-lengths_fit
 returns-then-not-lengths_fit c = rebuild-shape _ _ _ _ _ (refuted c.lengths_fit.ensures c.if-not-lengths_fit.true)
