@@ -8,8 +8,10 @@ ghost use Rattle.text.specs.Text.{decimal, key_text};
 ghost use Rattle.pieces.specs.Pieces.{page, wrote_all, space};
 ghost use Rattle.answer_figures.specs.Figures.{header_text, map_header_text, figures};
 
-use answers::{Answer, COUNTS, HEADER, KEY, MAP_HEADER, PAIR, REFUSED, REPLACED, STEP};
+use answers::Answer;
+use map::MapHeader;
 use pieces::{key, labelled, number};
+use table::Header;
 
 fn pair(a: u64, b: u64, at: usize, out: &mut [u8]) -> usize
     ensures { page result out.new ≡ wrote_all (page at out.old) (decimal a ∷ space ∷ decimal b ∷ []) }
@@ -27,49 +29,42 @@ fn element(k: u64, value: u64, next: u64, at: usize, out: &mut [u8]) -> usize
     labelled(b" ", next, m, out)
 }
 
-fn header(n: u64, s: u64, f: u64, at: usize, out: &mut [u8]) -> usize
-    ensures { page result out.new ≡ wrote_all (page at out.old) (header_text n s f) }
+fn header(h: Header, at: usize, out: &mut [u8]) -> usize
+    ensures { page result out.new ≡ wrote_all (page at out.old) (header_text h) }
 {
-    let i = labelled(b"n=", n, at, out);
-    let j = labelled(b" s=", s, i, out);
-    labelled(b" f=", f, j, out)
+    let i = labelled(b"n=", u64::from(h.n), at, out);
+    let j = labelled(b" s=", u64::from(h.s), i, out);
+    labelled(b" f=", u64::from(h.f), j, out)
 }
 
-fn map_header(s: u64, count: u64, at: usize, out: &mut [u8]) -> usize
-    ensures { page result out.new ≡ wrote_all (page at out.old) (map_header_text s count) }
+fn map_header(h: MapHeader, at: usize, out: &mut [u8]) -> usize
+    ensures { page result out.new ≡ wrote_all (page at out.old) (map_header_text h) }
 {
-    let i = labelled(b"s=", s, at, out);
-    labelled(b" count=", count, i, out)
+    let i = labelled(b"s=", u64::from(h.s), at, out);
+    labelled(b" count=", u64::from(h.count), i, out)
 }
 
-// An answer of such a kind; any other is told by its first number.
+// An answer of such a kind; any other is told by its number, or by 0 where it has none.
 pub fn told(answer: Answer, at: usize, out: &mut [u8]) -> usize
     ensures { page result out.new ≡ wrote_all (page at out.old) (figures answer) }
 {
-    let kind = answer.kind;
-    if kind == REFUSED {
-        return labelled(b"refused ", answer.a, at, out);
+    match answer {
+        Answer::Refused(why) => labelled(b"refused ", u64::from(why), at, out),
+        Answer::Number(x) | Answer::Digest(x) => number(x, at, out),
+        Answer::Written(n) => number(n as u64, at, out),
+        Answer::Key(k) => key(k, at, out),
+        Answer::Pair { key: k, value } => pair(k, value, at, out),
+        Answer::Counts(a, b) => pair(a, b, at, out),
+        Answer::Step {
+            key: k,
+            value,
+            next,
+        } => element(k, value, u64::from(next), at, out),
+        Answer::Replaced(x) => labelled(b"replaced ", x, at, out),
+        Answer::Header(h) => header(h, at, out),
+        Answer::MapHeader(h) => map_header(h, at, out),
+        Answer::Places(count) => number(count as u64, at, out),
+        Answer::Truth(yes) => number(u64::from(yes), at, out),
+        _ => number(0, at, out),
     }
-    if kind == KEY {
-        return key(answer.a, at, out);
-    }
-    if kind == PAIR {
-        return pair(answer.a, answer.b, at, out);
-    }
-    if kind == COUNTS {
-        return pair(answer.a, answer.b, at, out);
-    }
-    if kind == STEP {
-        return element(answer.a, answer.b, answer.c, at, out);
-    }
-    if kind == REPLACED {
-        return labelled(b"replaced ", answer.a, at, out);
-    }
-    if kind == HEADER {
-        return header(answer.a, answer.b, answer.c, at, out);
-    }
-    if kind == MAP_HEADER {
-        return map_header(answer.a, answer.b, at, out);
-    }
-    number(answer.a, at, out)
 }

@@ -4,7 +4,7 @@ use mathlib.Core.List.{List, [], ◌∷◌, ◌++◌}
 use Prim.Native.Nat.{ℕ, ◌+◌, ◌^◌, ◌≤◌, ◌<◌}
 use native.Mathlib.Omega.{arith}
 use lib.ListN.{length, length-append}
-use lib.Dec.{eqb}
+use mathlib.Core.Bool.{true, false}
 use Rattle.lists.specs.Put.{put}
 use Rattle.lists.proofs.Tests.{either}
 use Rattle.keys.specs.Keys.{idx, version, key_of, is_null}
@@ -14,8 +14,8 @@ use Rattle.text.proofs.Decimal.{length-decimal_32, length-decimal_64}
 use Rattle.pieces.specs.Pieces.{page, wrote_all, joined, newline}
 use Rattle.pieces.proofs.Pieces.{wrote_all-fits}
 use Rattle.answers.specs.declared.Answer.{Answer}
-use Rattle.answer_figures.specs.Figures.{figures}
-use Rattle.answer_lines.specs.Answers.{truth_text, text_of, line_of}
+use Rattle.answers.specs.declared.Answer.TheVariants as kinds
+use Rattle.answer_lines.specs.Answers.{text_of, line_of}
 
 key_short : (k : ℕ) → length (key_text (key_of k)) ≤ 21
 unfolding key_text
@@ -36,47 +36,46 @@ length-joined (t ∷ ts) = omega (arith, length-append t (joined ts), length-joi
 abbrev Short : List (List ℕ) → Type 0
 Short ts = total (ts ++ (newline ∷ [])) ≤ 69
 
-truth_short : (x : ℕ) → Short (truth_text x ∷ [])
-unfolding truth_text
-truth_short x = either (λ (t : List ℕ). Short (t ∷ [])) (eqb x 0) _ _ (omega arith) (omega arith)
+-- the numbers of an answer have at most 64 bits
+abbrev pub Fits64 : Answer → Type 0
+Fits64 (kinds.Refused r) = r < 2 ^ 64
+Fits64 (kinds.Number x) = x < 2 ^ 64
+Fits64 (kinds.Pair k x) = (k < 2 ^ 64) × (x < 2 ^ 64)
+Fits64 (kinds.Step k x q) = (x < 2 ^ 64) × (q < 2 ^ 64)
+Fits64 (kinds.Digest d) = d < 2 ^ 64
+Fits64 (kinds.Counts a b) = (a < 2 ^ 64) × (b < 2 ^ 64)
+Fits64 (kinds.Written m) = m < 2 ^ 64
+Fits64 (kinds.Replaced x) = x < 2 ^ 64
+Fits64 (kinds.Header h) = (h.n < 2 ^ 64) × ((h.s < 2 ^ 64) × (h.f < 2 ^ 64))
+Fits64 (kinds.MapHeader h) = (h.s < 2 ^ 64) × (h.count < 2 ^ 64)
+Fits64 _ = Unit {0}
 
-module _ (x : Answer) (ha : x.a < 2 ^ 64) (hb : x.b < 2 ^ 64) (hc : x.c < 2 ^ 64) where
-  a_short : length (decimal x.a) ≤ 20
-  a_short = length-decimal_64 x.a ha
+text_short : (x : Answer) → Fits64 x → Short (text_of x)
+text_short kinds.Done h = omega arith
+text_short (kinds.Refused r) h = omega (arith, length-decimal_64 r h)
+text_short (kinds.Number x) h = omega (arith, length-decimal_64 x h)
+text_short (kinds.Key k) h = omega (arith, key_short k)
+text_short (kinds.Pair k x) h = omega (arith, length-decimal_64 k h.0, length-decimal_64 x h.1)
+text_short (kinds.Step k x q) h = omega (arith, key_short k, length-decimal_64 x h.0, length-decimal_64 q h.1)
+text_short (kinds.Places m) h = omega arith
+text_short (kinds.Digest d) h = omega (arith, length-decimal_64 d h)
+text_short (kinds.Counts a b) h = omega (arith, length-decimal_64 a h.0, length-decimal_64 b h.1)
+text_short (kinds.Written m) h = omega (arith, length-decimal_64 m h)
+text_short kinds.Kept h = omega arith
+text_short kinds.Ignored h = omega arith
+text_short (kinds.Replaced x) h = omega (arith, length-decimal_64 x h)
+text_short kinds.Stored h = omega arith
+text_short kinds.Ended h = omega arith
+text_short (kinds.Truth true) h = omega arith
+text_short (kinds.Truth false) h = omega arith
+text_short (kinds.Header g) h = omega (arith, length-decimal_64 g.n h.0, length-decimal_64 g.s h.1.0, length-decimal_64 g.f h.1.1)
+text_short (kinds.MapHeader g) h = omega (arith, length-decimal_64 g.s h.0, length-decimal_64 g.count h.1)
 
-  b_short : length (decimal x.b) ≤ 20
-  b_short = length-decimal_64 x.b hb
-
-  c_short : length (decimal x.c) ≤ 20
-  c_short = length-decimal_64 x.c hc
-
-  figures_short : Short (figures x)
-  unfolding figures
-  figures_short =
-      either Short (eqb x.kind 1) _ _ (omega (arith, a_short))
-      (either Short (eqb x.kind 3) _ _ (omega (arith, key_short x.a))
-      (either Short (eqb x.kind 4) _ _ (omega (arith, a_short, b_short))
-      (either Short (eqb x.kind 8) _ _ (omega (arith, a_short, b_short))
-      (either Short (eqb x.kind 5) _ _ (omega (arith, key_short x.a, b_short, c_short))
-      (either Short (eqb x.kind 12) _ _ (omega (arith, a_short))
-      (either Short (eqb x.kind 16) _ _ (omega (arith, a_short, b_short, c_short))
-      (either Short (eqb x.kind 17) _ _ (omega (arith, a_short, b_short)) (omega (arith, a_short)))))))))
-
-  text_short : Short (text_of x)
-  unfolding text_of
-  text_short =
-      either Short (eqb x.kind 0) _ _ (omega arith)
-      (either Short (eqb x.kind 6) _ _ (omega arith)
-      (either Short (eqb x.kind 14) _ _ (omega arith)
-      (either Short (eqb x.kind 15) _ _ (truth_short x.a)
-      (either Short (eqb x.kind 13) _ _ (omega arith)
-      (either Short (eqb x.kind 10) _ _ (omega arith)
-      (either Short (eqb x.kind 11) _ _ (omega arith) figures_short))))))
-
+module _ (x : Answer) (h : Fits64 x) where
   pub line_short : length (joined (line_of x)) ≤ 69
-  line_short = omega (arith, length-joined (line_of x), text_short)
+  line_short = omega (arith, length-joined (line_of x), text_short x h)
 
   -- no piece of it is left out
   pub line-whole : (at : ℕ) (b : List ℕ) → at + 69 ≤ length b
       → wrote_all (page at b) (line_of x) ≡ page (at + length (joined (line_of x))) (put b at (joined (line_of x)))
-  line-whole at b h = wrote_all-fits at b (line_of x) (omega (arith, line_short))
+  line-whole at b l = wrote_all-fits at b (line_of x) (omega (arith, line_short))

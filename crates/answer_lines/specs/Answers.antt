@@ -1,9 +1,9 @@
 -- The line that is printed for an answer. Assumes nothing.
-use Rattle.std.specs.Prelude.{ℕ, cond, List, [], ◌∷◌, ◌++◌, eqb}
+use Rattle.std.specs.Prelude.{ℕ, Bool, true, false, List, [], ◌∷◌, ◌++◌}
 use Rattle.text.specs.Text.{ok_text}
 use Rattle.pieces.specs.Pieces.{newline}
 use Rattle.answers.specs.declared.Answer.{Answer}
-use Rattle.answers.specs.Kinds.{DONE, PLACES, KEPT, IGNORED, STORED, ENDED, TRUTH}
+use Rattle.answers.specs.declared.Answer.TheVariants.{Done, Places, Ended, Truth, Stored, Kept, Ignored}
 use Rattle.answer_figures.specs.Figures.{figures}
 
 -- ---- the words, letter by letter
@@ -24,22 +24,23 @@ kept_text = 107 ∷ 101 ∷ 112 ∷ 116 ∷ []
 abbrev pub ignored_text : List ℕ
 ignored_text = 105 ∷ 103 ∷ 110 ∷ 111 ∷ 114 ∷ 101 ∷ 100 ∷ []
 
--- `no` of 0, `yes` of any other number
-unfoldable pub truth_text : ℕ → List ℕ
-truth_text x = cond (eqb x 0) (110 ∷ 111 ∷ []) (121 ∷ 101 ∷ 115 ∷ [])
+-- `yes`, `no`
+abbrev pub truth_text : Bool → List ℕ
+truth_text true = 121 ∷ 101 ∷ 115 ∷ []
+truth_text false = 110 ∷ 111 ∷ []
 
 -- ---- answers, in pieces
 
 -- every kind: those that are told by a word, and the others
-unfoldable pub text_of : Answer → List (List ℕ)
-text_of x =
-    cond (eqb x.kind DONE) (ok_text ∷ [])
-    (cond (eqb x.kind PLACES) (ok_text ∷ [])
-    (cond (eqb x.kind ENDED) (done_text ∷ [])
-    (cond (eqb x.kind TRUTH) (truth_text x.a ∷ [])
-    (cond (eqb x.kind STORED) (stored_text ∷ [])
-    (cond (eqb x.kind KEPT) (kept_text ∷ [])
-    (cond (eqb x.kind IGNORED) (ignored_text ∷ []) (figures x)))))))
+abbrev pub text_of : Answer → List (List ℕ)
+text_of Done = ok_text ∷ []
+text_of (Places m) = ok_text ∷ []
+text_of Ended = done_text ∷ []
+text_of (Truth b) = truth_text b ∷ []
+text_of Stored = stored_text ∷ []
+text_of Kept = kept_text ∷ []
+text_of Ignored = ignored_text ∷ []
+text_of x = figures x
 
 abbrev pub line_of : Answer → List (List ℕ)
 line_of x = text_of x ++ (newline ∷ [])

@@ -19,10 +19,10 @@ use Rattle.text.specs.Text.{decimal, digit_of}
 use Rattle.text.proofs.Decimal.{length-decimal_64}
 use Rattle.table.specs.Steps.{c_lookup, c_put, c_insert, c_remove, c_detach, c_reattach, c_drain, c_retain, c_clear}
 use Rattle.fields.specs.declared.Number.{Number}
-use Rattle.fields.specs.declared.Number.TheVariants.{Is, Wrong}
+use Rattle.std.specs.Prelude.{Option, Some, None}
 use Rattle.commands.specs.Lines.{Asked, asks, asks_len, rejects, misread, key_in, most32, most64, index_after, version_after, ended, insert_of, reattach_of, plain_of, keyed_of, longest, asked, key_words, line_text, is_command}
 use Rattle.fields.proofs.Numbers.{field-small}
-use Rattle.fields.specs.Fields.{field_at}
+use Rattle.fields.specs.Fields.{reads, field_at}
 use Rattle.fields.proofs.Fields.{field-space}
 use Rattle.commands.proofs.Lines.{key-whole, ended_yes, asked_i, asked-key, keyed-plain}
 use Rattle.fields.proofs.Decimals.{number_read, number-written}
@@ -33,10 +33,10 @@ byte-there : (line : List ℕ) (i b : ℕ) → 0 < b → get_or line i 0 ≡ b �
 byte-there line i b h e = lt_of_not-le (λ l. omega (arith, get_or-eq_default line 0 l))
 
 -- a number after a space
-field-written : (limit : ℕ) (line : List ℕ) (at v n : ℕ) → field_at limit line at ≡ Is v n → drop at line ≡ 32 ∷ (decimal v ++ drop n line)
+field-written : (limit : ℕ) (line : List ℕ) (at v n : ℕ) → field_at limit line at ≡ reads v n → drop at line ≡ 32 ∷ (decimal v ++ drop n line)
 unfolding field_at
 field-written limit line at v n =
-    picked (λ (r : Number). r ≡ Is v n → drop at line ≡ 32 ∷ (decimal v ++ drop n line)) (eqb (get_or line at 0) 32) _ _
+    picked (λ (r : Option Number). r ≡ reads v n → drop at line ≡ 32 ∷ (decimal v ++ drop n line)) (eqb (get_or line at 0) 32) _ _
     (λ s e. spaced (eqb-true (get_or line at 0) 32 s) (number-written limit line (at + 1) v n e)) (λ _ e. let z : ◌≡◌ {A = ℕ} 0 1 = cc in absurd (omega arith))
   where
     spaced : get_or line at 0 ≡ 32 → drop (at + 1) line ≡ decimal v ++ drop n line → drop at line ≡ 32 ∷ (decimal v ++ drop n line)
@@ -55,16 +55,16 @@ module _ (line : List ℕ) where
   at_end n e = drop_of_length-le line {i = n} (omega arith)
 
   -- the last number of a line
-  last_written : (limit at v n : ℕ) → field_at limit line at ≡ Is v n → n ≡ length line → drop at line ≡ 32 ∷ decimal v
+  last_written : (limit at v n : ℕ) → field_at limit line at ≡ reads v n → n ≡ length line → drop at line ≡ 32 ∷ decimal v
   last_written limit at v n e z = field-written limit line at v n e ∙ ap (λ (r : List ℕ). 32 ∷ (decimal v ++ r)) (at_end n z) ∙ ap (λ (r : List ℕ). 32 ∷ r) (append-nil (decimal v))
 
   understood_end : (n : ℕ) (a : Asked) → (n ≡ length line → Understood a) → Understood (ended line n a)
   understood_end n a f = picked Understood (eqb n (length line)) a misread (λ e. f (eqb-true n (length line) e)) (λ _. inl refl)
 
-  understood_insert : (r : Number) → field_at most64 line 1 ≡ r → get_or line 0 0 ≡ 105 → Understood (insert_of line r)
-  understood_insert Wrong e b = inl refl
-  understood_insert (Is x n) e b =
-      understood_end n _ (λ z. inr (whole line 105 32 (decimal x) b (last_written most64 1 x n e z), le-leb x most64 (field-small most64 line 1 x n (sym e))))
+  understood_insert : (r : Option Number) → field_at most64 line 1 ≡ r → get_or line 0 0 ≡ 105 → Understood (insert_of line r)
+  understood_insert None e b = inl refl
+  understood_insert (Some x) e b =
+      understood_end x.next _ (λ z. inr (whole line 105 32 (decimal x.value) b (last_written most64 1 x.value x.next e z), le-leb x.value most64 (field-small most64 line 1 x.value x.next (sym e))))
 
   module _ (k : ℕ) (small : k ≤ most64) where
     understood_plain : (letter : ℕ) → get_or line 0 0 ≡ letter → drop 1 line ≡ key_words k [] → Understood (plain_of letter k)
@@ -79,35 +79,35 @@ module _ (line : List ℕ) where
         is : (l : ℕ) → eqb letter l ≡ true → line ≡ l ∷ key_words k []
         is l e = whole line l 32 _ (b ∙ eqb-true letter l e) w
 
-    understood_reattach : (m : ℕ) (r : Number) → field_at most64 line m ≡ r → get_or line 0 0 ≡ 97 → drop 1 line ≡ key_words k (drop m line) → Understood (reattach_of line k r)
-    understood_reattach m Wrong e b w = inl refl
-    understood_reattach m (Is x n) e b w =
-        understood_end n _
-        (λ z. inr (whole line 97 32 _ b (w ∙ ap (key_words k) (last_written most64 m x n e z)), and_true (le-leb k most64 small) (le-leb x most64 (field-small most64 line m x n (sym e)))))
+    understood_reattach : (m : ℕ) (r : Option Number) → field_at most64 line m ≡ r → get_or line 0 0 ≡ 97 → drop 1 line ≡ key_words k (drop m line) → Understood (reattach_of line k r)
+    understood_reattach m None e b w = inl refl
+    understood_reattach m (Some x) e b w =
+        understood_end x.next _
+        (λ z. inr (whole line 97 32 _ b (w ∙ ap (key_words k) (last_written most64 m x.value x.next e z)), and_true (le-leb k most64 small) (le-leb x.value most64 (field-small most64 line m x.value x.next (sym e)))))
 
-    understood_key : (letter m : ℕ) → get_or line 0 0 ≡ letter → drop 1 line ≡ key_words k (drop m line) → Understood (keyed_of line letter (Is k m))
+    understood_key : (letter m : ℕ) → get_or line 0 0 ≡ letter → drop 1 line ≡ key_words k (drop m line) → Understood (keyed_of line letter (reads k m))
     understood_key letter m b w =
         picked Understood (eqb letter 97) _ _ (λ e. understood_reattach m (field_at most64 line m) refl (b ∙ eqb-true letter 97 e) w)
         (λ _. understood_end m _ (λ z. understood_plain letter b (w ∙ ap (key_words k) (at_end m z))))
 
-  understood_version : (i n : ℕ) (r : Number) → field_at most32 line 1 ≡ Is i n → field_at most32 line n ≡ r → Understood (keyed_of line (get_or line 0 0) (version_after i r))
-  understood_version i n Wrong e f = inl refl
-  understood_version i n (Is v m) e f = understood_key (pack i v) (omega (arith, index, version)) (get_or line 0 0) m refl words
+  understood_version : (i n : ℕ) (r : Option Number) → field_at most32 line 1 ≡ reads i n → field_at most32 line n ≡ r → Understood (keyed_of line (get_or line 0 0) (version_after i r))
+  understood_version i n None e f = inl refl
+  understood_version i n (Some r) e f = understood_key (pack i r.value) (omega (arith, index, version)) (get_or line 0 0) r.next refl words
     where
       index : i ≤ most32
       index = field-small most32 line 1 i n (sym e)
 
-      version : v ≤ most32
-      version = field-small most32 line n v m (sym f)
+      version : r.value ≤ most32
+      version = field-small most32 line n r.value r.next (sym f)
 
-      words : drop 1 line ≡ key_words (pack i v) (drop m line)
+      words : drop 1 line ≡ key_words (pack i r.value) (drop r.next line)
       words =
-          field-written most32 line 1 i n e ∙ ap (λ (r : List ℕ). 32 ∷ (decimal i ++ r)) (field-written most32 line n v m f)
-          ∙ sym (ap₂ (λ (x y : ℕ). 32 ∷ (decimal x ++ (32 ∷ (decimal y ++ drop m line)))) (idx-pack i v (omega (arith, index))) (vsn-pack i v (omega (arith, index))))
+          field-written most32 line 1 i n e ∙ ap (λ (rest : List ℕ). 32 ∷ (decimal i ++ rest)) (field-written most32 line n r.value r.next f)
+          ∙ sym (ap₂ (λ (x y : ℕ). 32 ∷ (decimal x ++ (32 ∷ (decimal y ++ drop r.next line)))) (idx-pack i r.value (omega (arith, index))) (vsn-pack i r.value (omega (arith, index))))
 
-  understood_index : (r : Number) → field_at most32 line 1 ≡ r → Understood (keyed_of line (get_or line 0 0) (index_after line r))
-  understood_index Wrong e = inl refl
-  understood_index (Is i n) e = understood_version i n (field_at most32 line n) e refl
+  understood_index : (r : Option Number) → field_at most32 line 1 ≡ r → Understood (keyed_of line (get_or line 0 0) (index_after line r))
+  understood_index None e = inl refl
+  understood_index (Some i) e = understood_version i.value i.next (field_at most32 line i.next) e refl
 
   understood_l : get_or line 0 0 ≡ 108 → Understood (ended line 1 asks_len)
   understood_l b = understood_end 1 asks_len (λ z. inr (alone line b z, refl))
@@ -133,7 +133,7 @@ module _ (limit : ℕ) (line : List ℕ) (at n : ℕ) (rest : List ℕ) (e : dro
   after-space : drop (at + 1) line ≡ decimal n ++ rest
   after-space = sym (drop-drop 1 at line) ∙ ap (drop 1) e
 
-  field-read : n ≤ limit → 10 ≤ digit_of (get_or rest 0 0) → field_at limit line at ≡ Is n (at + 1 + length (decimal n))
+  field-read : n ≤ limit → 10 ≤ digit_of (get_or rest 0 0) → field_at limit line at ≡ reads n (at + 1 + length (decimal n))
   field-read h s = sym (field-space limit line at byte) ∙ number_read limit line (at + 1) n rest after-space h s
     where
       byte : get_or line at 0 ≡ 32
@@ -170,10 +170,10 @@ module _ (letter k : ℕ) (rest : List ℕ) (small : k ≤ most64) where
   key-after : drop (after_key k) (letter ∷ key_words k rest) ≡ rest
   key-after = field-after most32 (letter ∷ key_words k rest) (after_index k) (vsn k) rest after_index_lem
 
-  key-read : 10 ≤ digit_of (get_or rest 0 0) → key_in (letter ∷ key_words k rest) ≡ Is k (after_key k)
+  key-read : 10 ≤ digit_of (get_or rest 0 0) → key_in (letter ∷ key_words k rest) ≡ reads k (after_key k)
   key-read s =
       sym (key-whole (letter ∷ key_words k rest) (idx k) (after_index k) (field-read most32 (letter ∷ key_words k rest) 1 (idx k) _ refl (omega arith) no_digit-space) (vsn k) (after_key k) (field-read most32 (letter ∷ key_words k rest) (after_index k) (vsn k) rest after_index_lem (omega arith) s))
-      ∙ ap (λ (m : ℕ). Is m (after_key k)) packed
+      ∙ ap (λ (m : ℕ). reads m (after_key k)) packed
     where
       packed : pack (idx k) (vsn k) ≡ k
       packed = omega arith
@@ -183,7 +183,7 @@ module _ (line : List ℕ) (at x : ℕ) (e : drop at line ≡ 32 ∷ decimal x) 
   last-there : drop at line ≡ 32 ∷ (decimal x ++ [])
   last-there = e ∙ ap (λ (r : List ℕ). 32 ∷ r) (sym (append-nil (decimal x)))
 
-  last-read : x ≤ most64 → field_at most64 line at ≡ Is x (at + 1 + length (decimal x))
+  last-read : x ≤ most64 → field_at most64 line at ≡ reads x (at + 1 + length (decimal x))
   last-read h = field-read most64 line at x [] last-there h no_digit
 
 insert-read : (x : ℕ) → x ≤ most64 → asked (105 ∷ 32 ∷ decimal x) ≡ asks (c_insert x)

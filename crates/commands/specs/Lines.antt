@@ -1,14 +1,14 @@
 -- Lines of a script, and what each asks for (the rules, section "Script"). Bytes are ASCII. Assumes nothing.
-use Rattle.std.specs.Prelude.{ℕ, Bool, false, true, cond, ◌&&◌, List, [], ◌∷◌, ◌++◌, length, get_or, leb, ltb, eqb}
+use Rattle.std.specs.Prelude.{ℕ, Bool, false, true, cond, ◌&&◌, List, [], ◌∷◌, ◌++◌, length, get_or, leb, ltb, eqb, Option, Some, None, Result, Ok, Err}
 use Rattle.keys.specs.Keys.{idx, vsn, pack}
+use Rattle.refusal.specs.declared.Refusal.{Refusal}
 use Rattle.refusal.specs.Refusals.{number_of}
 use Rattle.text.specs.Text.{decimal}
 use Rattle.fields.specs.declared.Number.{Number}
-use Rattle.fields.specs.declared.Number.TheVariants.{Is, Wrong}
-use Rattle.fields.specs.Fields.{field_at}
+use Rattle.fields.specs.Fields.{reads, field_at}
 use Rattle.table.specs.Steps.{Call, c_lookup, c_put, c_insert, c_remove, c_detach, c_reattach, c_drain, c_retain, c_clear}
 use Rattle.commands.specs.declared.Command.{Command}
-use Rattle.commands.specs.declared.Command.TheVariants.{Insert, Get, Remove, Detach, Reattach, Len, Refused}
+use Rattle.commands.specs.declared.Command.TheVariants.{Insert, Get, Remove, Detach, Reattach, Len}
 
 -- what a line asks for: a call of the table, the number of its elements; or the number of the line's refusal
 pub data Asked : Type 0 where
@@ -17,14 +17,14 @@ pub data Asked : Type 0 where
   rejects : ℕ → Asked
 
 -- the same, of the command that the code gives
-abbrev pub asked_of : Command → Asked
-asked_of (Insert x) = asks (c_insert x)
-asked_of (Get k) = asks (c_lookup k)
-asked_of (Remove k) = asks (c_remove k)
-asked_of (Detach k) = asks (c_detach k)
-asked_of (Reattach k x) = asks (c_reattach k x)
-asked_of Len = asks_len
-asked_of (Refused r) = rejects (number_of r)
+abbrev pub asked_of : Result Command Refusal → Asked
+asked_of (Ok (Insert x)) = asks (c_insert x)
+asked_of (Ok (Get k)) = asks (c_lookup k)
+asked_of (Ok (Remove k)) = asks (c_remove k)
+asked_of (Ok (Detach k)) = asks (c_detach k)
+asked_of (Ok (Reattach k x)) = asks (c_reattach k x)
+asked_of (Ok Len) = asks_len
+asked_of (Err r) = rejects (number_of r)
 
 -- "script line not understood"
 abbrev pub misread : Asked
@@ -40,15 +40,15 @@ abbrev pub most64 : ℕ
 most64 = 18446744073709551615
 
 -- a key: index and version, each after a space, from the place after the letter on
-abbrev pub version_after : ℕ → Number → Number
-version_after i (Is v n) = Is (pack i v) n
-version_after i Wrong = Wrong
+abbrev pub version_after : ℕ → Option Number → Option Number
+version_after i (Some v) = reads (pack i v.value) v.next
+version_after i None = None
 
-abbrev pub index_after : List ℕ → Number → Number
-index_after line (Is i n) = version_after i (field_at most32 line n)
-index_after line Wrong = Wrong
+abbrev pub index_after : List ℕ → Option Number → Option Number
+index_after line (Some i) = version_after i.value (field_at most32 line i.next)
+index_after line None = None
 
-unfoldable pub key_in : List ℕ → Number
+unfoldable pub key_in : List ℕ → Option Number
 key_in line = index_after line (field_at most32 line 1)
 
 -- ---- the commands
@@ -58,23 +58,24 @@ abbrev pub ended : List ℕ → ℕ → Asked → Asked
 ended line n a = cond (eqb n (length line)) a misread
 
 -- `i V`
-abbrev pub insert_of : List ℕ → Number → Asked
-insert_of line (Is x n) = ended line n (asks (c_insert x))
-insert_of line Wrong = misread
+abbrev pub insert_of : List ℕ → Option Number → Asked
+insert_of line (Some x) = ended line x.next (asks (c_insert x.value))
+insert_of line None = misread
 
 -- `a IDX VER V`
-abbrev pub reattach_of : List ℕ → ℕ → Number → Asked
-reattach_of line k (Is x n) = ended line n (asks (c_reattach k x))
-reattach_of line k Wrong = misread
+abbrev pub reattach_of : List ℕ → ℕ → Option Number → Asked
+reattach_of line k (Some x) = ended line x.next (asks (c_reattach k x.value))
+reattach_of line k None = misread
 
 -- `g IDX VER`, `r IDX VER`, `d IDX VER`
 abbrev pub plain_of : ℕ → ℕ → Asked
 plain_of letter k =
     cond (eqb letter 103) (asks (c_lookup k)) (cond (eqb letter 114) (asks (c_remove k)) (cond (eqb letter 100) (asks (c_detach k)) misread))
 
-abbrev pub keyed_of : List ℕ → ℕ → Number → Asked
-keyed_of line letter (Is k n) = cond (eqb letter 97) (reattach_of line k (field_at most64 line n)) (ended line n (plain_of letter k))
-keyed_of line letter Wrong = misread
+abbrev pub keyed_of : List ℕ → ℕ → Option Number → Asked
+keyed_of line letter (Some k) =
+    cond (eqb letter 97) (reattach_of line k.value (field_at most64 line k.next)) (ended line k.next (plain_of letter k.value))
+keyed_of line letter None = misread
 
 -- "at most 80 bytes"
 abbrev pub longest : ℕ

@@ -5,6 +5,10 @@ use Prim.Native.Nat.{◌+◌, ◌-◌, ◌≤◌, ◌<◌}
 use lib.Dec.{leb}
 use Rattle.lists.proofs.Tests.{tests}
 use Rattle.table.specs.Table.{Table, cap, lengths_fit, has_shape}
+use Rattle.table.proofs.Shape.{has_shape_lem}
+use Rattle.dense.specs.declared.View.{View}
+use Rattle.dense.specs.declared.judged.Shaped.{Shaped}
+use Rattle.dense.specs.Lent.{seen}
 
 module _ (t : Table) (fit : lengths_fit t.versions t.links t.keys t.values ≡ true) where
   pub shape_no_slot : t.head.s < 1 → false ≡ has_shape t
@@ -29,3 +33,7 @@ module _ (t : Table) (fit : lengths_fit t.versions t.links t.keys t.values ≡ t
         pub shape_by_head : 1 ≤ t.head.f → leb t.head.f t.head.s ≡ has_shape t
         unfolding has_shape
         shape_by_head h = simp (fit, tests)
+
+-- what `with_shape` tells of the view that it was given
+pub shape_of_view : (table : Shaped) {view : View} → table.view ≡ view → has_shape (seen view) ≡ true
+shape_of_view table e = rw (← e) (has_shape_lem _ table.shape)

@@ -1,14 +1,16 @@
 // The dense table over lent arrays: the answers of its calls, fresh, and the judgements that the other calls begin with: shape, and where a key stands.
 #![tactic(auto)]
 
-ghost use Rattle.std.specs.Prelude.{◌≡◌, List, ℕ};
+ghost use Rattle.std.specs.Prelude.{◌≡◌, List, ℕ, false, MatchResult};
 ghost use Rattle.refusal.specs.Refusals.{number_of};
 ghost use Rattle.table.specs.Table.{lengths_fit, has_shape, is_live, dead};
 ghost use Rattle.table.specs.Calls.{Begun, fresh, contains, place_in, place};
-ghost use Rattle.dense.specs.Lent.{table};
+ghost use Rattle.dense.specs.Lent.{seen};
 ghost use Rattle.dense.specs.Answers.{judged_of, truth_said, begun_of};
-ghost use Rattle.table.proofs.Shape.{Shape};
 
+mod judged;
+
+pub use judged::Shaped;
 use keys::KeyData;
 use refusal::Refusal;
 use table::Header;
@@ -19,67 +21,14 @@ pub const LIMIT: usize = 4096;
 // The link of a slot whose element is detached: it is no place and no slot.
 pub const DETACHED: u32 = 0xffff_ffff;
 
-// How a table begins.
+// A table as a call that only looks is lent it: the header and the four arrays, whatever they hold.
 #[derive(Clone, Copy)]
-pub enum Started {
-    With(Header),
-    Refused(Refusal),
-}
-
-// The place of a live key.
-#[derive(Clone, Copy)]
-pub enum Placed {
-    At(usize),
-    Refused(Refusal),
-}
-
-// The value of a key.
-#[derive(Clone, Copy)]
-pub enum Found {
-    Value(u64),
-    Refused(Refusal),
-}
-
-// The key that an insert issues.
-#[derive(Clone, Copy)]
-pub enum Issued {
-    Key(u64),
-    Refused(Refusal),
-}
-
-// How many elements there are.
-#[derive(Clone, Copy)]
-pub enum Counted {
-    Count(u32),
-    Refused(Refusal),
-}
-
-// A yes or a no.
-#[derive(Clone, Copy)]
-pub enum Tested {
-    Truth(bool),
-    Refused(Refusal),
-}
-
-// A slot that a judgement found.
-#[derive(Clone, Copy)]
-pub enum Slot {
-    At(usize),
-    Refused(Refusal),
-}
-
-// Done, or the refusal.
-#[derive(Clone, Copy)]
-pub enum Verdict {
-    Done,
-    Refused(Refusal),
-}
-
-// The header after a call that answers nothing else.
-#[derive(Clone, Copy)]
-pub struct Changed {
-    pub header: Header,
-    pub answer: Verdict,
+pub struct View<'a> {
+    pub h: Header,
+    pub versions: &'a [u32],
+    pub links: &'a [u32],
+    pub keys: &'a [u64],
+    pub values: &'a [u64],
 }
 
 // Whether the arrays' lengths fit one another: C keys and values, C + 1 versions and links.
@@ -101,17 +50,18 @@ pub fn lengths_fit(versions: &[u32], links: &[u32], keys: &[u64], values: &[u64]
 }
 
 // Whether the shape holds. It looks at lengths and header only, so it takes the same time whatever the table holds.
-pub fn has_shape(h: Header, versions: &[u32], links: &[u32], keys: &[u64], values: &[u64]) -> bool
-    ensures { result ≡ has_shape (table versions.now links.now keys.now values.now h) }
+pub fn has_shape(view: View) -> bool
+    ensures { result ≡ has_shape (seen view.entry) }
 {
-    if !lengths_fit(versions, links, keys, values) {
+    let h = view.h;
+    if !lengths_fit(view.versions, view.links, view.keys, view.values) {
         return false;
     }
     let s = h.s as usize;
     if s < 1 {
         return false;
     }
-    if keys.len() + 1 < s {
+    if view.keys.len() + 1 < s {
         return false;
     }
     if h.s - 1 < h.n {
@@ -123,30 +73,38 @@ pub fn has_shape(h: Header, versions: &[u32], links: &[u32], keys: &[u64], value
     h.f <= h.s
 }
 
+// The same table, known to have its shape; else refusal 1.
+pub fn with_shape(view: View<'_>) -> Result<Shaped<'_>, Refusal>
+    ensures { MatchResult result (λ table. table.view ≡ view.entry) (λ why. (number_of why ≡ 1) × (has_shape (seen view.entry) ≡ false)) }
+{
+    if !has_shape(view) {
+        return Err(Refusal::Shape);
+    }
+    Ok(Shaped { view })
+}
+
 // Begins a table over lent arrays, whatever they hold.
-pub fn fresh(versions: &mut [u32], links: &mut [u32], keys: &[u64], values: &[u64]) -> Started
+pub fn fresh(
+    versions: &mut [u32],
+    links: &mut [u32],
+    keys: &[u64],
+    values: &[u64],
+) -> Result<Header, Refusal>
     ensures { ◌≡◌ {A = Begun × (List ℕ × List ℕ)} (begun_of result, (versions.new, links.new)) (fresh versions.old links.old keys.now values.now) }
 {
     if !lengths_fit(versions, links, keys, values) {
-        return Started::Refused(Refusal::Shape);
+        return Err(Refusal::Shape);
     }
     versions[0] = 0;
     links[0] = 0;
-    Started::With(Header { n: 0, s: 1, f: 1 })
+    Ok(Header { n: 0, s: 1, f: 1 })
 }
 
-// Whether a key is live, on a table that has its shape.
-fn is_live(
-    h: Header,
-    versions: &[u32],
-    links: &[u32],
-    keys: &[u64],
-    values: &[u64],
-    key: KeyData,
-) -> bool
-    requires { Shape (table versions.now links.now keys.now values.now h) }
-    ensures { result ≡ is_live (table versions.now links.now keys.now values.now h) key.idx key.version }
+// Whether a key is live.
+fn is_live(table: Shaped, key: KeyData) -> bool
+    ensures { result ≡ is_live (seen table.entry.view) key.idx key.version }
 {
+    let h = table.view.h;
     let i = key.idx;
     if i < 1 {
         return false;
@@ -154,80 +112,47 @@ fn is_live(
     if h.s <= i {
         return false;
     }
-    versions[i as usize] == key.version
+    table.view.versions[i as usize] == key.version
 }
 
 // The refusal of a key that is not live.
-fn dead(
-    h: Header,
-    versions: &[u32],
-    links: &[u32],
-    keys: &[u64],
-    values: &[u64],
-    key: KeyData,
-) -> Refusal
-    requires { Shape (table versions.now links.now keys.now values.now h) }
-    ensures { number_of result ≡ dead (table versions.now links.now keys.now values.now h) key.idx key.version }
+fn dead(table: Shaped, key: KeyData) -> Refusal
+    ensures { number_of result ≡ dead (seen table.entry.view) key.idx key.version }
 {
     Refusal::Dead
 }
 
-// The place of a key, on a table that has its shape.
+// The place of a key.
 #[tactic(auto, unfolding(table::specs::Calls::place_in, table::specs::Table::is_held), using(std::proofs::lemmas::Bool::Decides::nat_tests))]
-fn place_in(
-    h: Header,
-    versions: &[u32],
-    links: &[u32],
-    keys: &[u64],
-    values: &[u64],
-    key: KeyData,
-) -> Placed
-    requires { Shape (table versions.now links.now keys.now values.now h) }
-    ensures { judged_of result ≡ place_in (table versions.now links.now keys.now values.now h) key.idx key.version }
+fn place_in(table: Shaped, key: KeyData) -> Result<usize, Refusal>
+    ensures { judged_of result ≡ place_in (seen table.entry.view) key.idx key.version }
 {
-    if !is_live(h, versions, links, keys, values, key) {
-        return Placed::Refused(dead(h, versions, links, keys, values, key));
+    if !is_live(table, key) {
+        return Err(dead(table, key));
     }
+    let View { h, links, keys, .. } = table.view;
     let p = links[key.idx as usize];
     if h.n <= p {
-        return Placed::Refused(Refusal::Damaged);
+        return Err(Refusal::Damaged);
     }
     let q = p as usize;
     if keys[q] != key.as_ffi() {
-        return Placed::Refused(Refusal::Damaged);
+        return Err(Refusal::Damaged);
     }
-    Placed::At(q)
+    Ok(q)
 }
 
 // Judges a key for the calls that need it live: its place, or the refusal.
-pub fn place(
-    h: Header,
-    versions: &[u32],
-    links: &[u32],
-    keys: &[u64],
-    values: &[u64],
-    k: u64,
-) -> Placed
-    ensures { judged_of result ≡ place (table versions.now links.now keys.now values.now h) k }
+pub fn place(view: View, k: u64) -> Result<usize, Refusal>
+    ensures { judged_of result ≡ place (seen view.entry) k }
 {
-    if !has_shape(h, versions, links, keys, values) {
-        return Placed::Refused(Refusal::Shape);
-    }
-    place_in(h, versions, links, keys, values, KeyData::from_ffi(k))
+    let table = with_shape(view)?;
+    place_in(table, KeyData::from_ffi(k))
 }
 
-pub fn contains_key(
-    h: Header,
-    versions: &[u32],
-    links: &[u32],
-    keys: &[u64],
-    values: &[u64],
-    k: u64,
-) -> Tested
-    ensures { truth_said result ≡ contains (table versions.now links.now keys.now values.now h) k }
+pub fn contains_key(view: View, k: u64) -> Result<bool, Refusal>
+    ensures { truth_said result ≡ contains (seen view.entry) k }
 {
-    if !has_shape(h, versions, links, keys, values) {
-        return Tested::Refused(Refusal::Shape);
-    }
-    Tested::Truth(is_live(h, versions, links, keys, values, KeyData::from_ffi(k)))
+    let table = with_shape(view)?;
+    Ok(is_live(table, KeyData::from_ffi(k)))
 }

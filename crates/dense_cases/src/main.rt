@@ -17,13 +17,6 @@ const STDOUT_FILENO: i32 = 1;
 // Room for each array of a table.
 const ROOM: usize = 4100;
 
-// Writes a line that is a remark.
-fn remark(input: &[u8], at: usize, op: u8) {
-    if op == b'#' {
-        io::write_all(STDOUT_FILENO, lines::line_at(input, at));
-    }
-}
-
 // The lines of the input, one after the other: each bends the whole arrays, or is a call on the parts that are lent.
 fn run(input: &[u8]) {
     let mut versions = [9u32; ROOM];
@@ -32,10 +25,11 @@ fn run(input: &[u8]) {
     let mut values = [9u64; ROOM];
     let mut h = Header { n: 0, s: 0, f: 0 };
     let mut lent = Lent::none();
-    let mut at = 0;
-    while at < input.len() {
-        let line = replay_input::line_at(input, at);
-        remark(input, at, line.op);
+    for text in input.split_inclusive(|b| *b == b'\n') {
+        let line = replay_input::line_at(text, 0);
+        if line.op == b'#' {
+            io::write_all(STDOUT_FILENO, text);
+        }
         lent = replay_bend::lend(lent, line);
         replay_bend::cells(&mut versions, &mut links, &mut keys, &mut values, line);
         let a = least(lent.versions, ROOM);
@@ -50,7 +44,6 @@ fn run(input: &[u8]) {
             &mut values[..v],
             line,
         );
-        at = lines::line_end(input, at);
     }
 }
 

@@ -30,21 +30,12 @@ fn main() {
 
 // Each situation, with its remark before it.
 fn situations(text: &[u8]) {
-    let mut at = 0;
-    let mut k: u32 = 0;
-    while k < 3 {
-        at = remark(text, at);
-        situation(k);
-        k += 1;
-    }
-}
-
-fn situation(k: u32) {
-    match k {
-        0 => judged_in_order(),
-        1 => all_different(),
-        _ => output(),
-    }
+    let a = remark(text, 0);
+    judged_in_order();
+    let b = remark(text, a);
+    all_different();
+    remark(text, b);
+    output();
 }
 
 fn judged_in_order() {
@@ -107,6 +98,6 @@ fn tell(answer: Answer) {
 
 fn show_words(list: &[u32]) {
     let mut text = [0u8; 80];
-    let end = lines::words(list, 0, &mut text);
+    let end = lines::row(list, 0, &mut text);
     io::write_all(STDOUT_FILENO, first(&text, end));
 }

@@ -7,9 +7,10 @@ ghost use Rattle.table.specs.Sweeps.{clearing, clear};
 ghost use Rattle.dense.specs.Lent.{table};
 ghost use Rattle.dense.specs.Answers.{outcome, done_said};
 
-use dense::{Changed, Verdict};
+use dense::View;
 use dense_drain::drain_step;
 use dense_sweep::asked;
+use refusal::Changed;
 use table::Header;
 
 // Drains a sound table until nothing is left.
@@ -38,20 +39,24 @@ pub fn clear(
     links: &mut [u32],
     keys: &[u64],
     values: &[u64],
-) -> Changed
+) -> Changed<Header, ()>
     ensures { outcome (done_said result.answer) (table versions.new links.new keys.now values.now result.header) ≡ clear (table versions.old links.old keys.now values.now h) }
 {
-    match asked(h, versions, links, keys, values) {
-        Verdict::Done => {
-            let g = drain_all(h, versions, links, keys, values);
-            Changed {
-                header: g,
-                answer: Verdict::Done,
-            }
-        }
-        Verdict::Refused(r) => Changed {
+    let view = View {
+        h,
+        versions,
+        links,
+        keys,
+        values,
+    };
+    match asked(view) {
+        Ok(()) => Changed {
+            header: drain_all(h, versions, links, keys, values),
+            answer: Ok(()),
+        },
+        Err(why) => Changed {
             header: h,
-            answer: Verdict::Refused(r),
+            answer: Err(why),
         },
     }
 }

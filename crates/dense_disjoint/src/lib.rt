@@ -11,7 +11,7 @@ ghost use Rattle.dense.specs.Lent.{table};
 ghost use Rattle.dense.specs.Answers.{done_said};
 ghost use Rattle.dense_disjoint.specs.Places.{leaves, disjointly};
 
-use dense::{Placed, Verdict, has_shape, place};
+use dense::{View, place, with_shape};
 use keys::KeyData;
 use marks::{mark, mark_all};
 use refusal::Refusal;
@@ -30,16 +30,20 @@ fn mark_placed(
     requires { Shape (table versions.old links.now keys.now values.now h) }
     ensures { Marked (table versions.old links.now keys.now values.now h) wanted.now versions.new result }
 {
-    let mut m = 0;
-    while m < wanted.len() {
-        let k = wanted[m];
-        match place(h, versions, links, keys, values, k) {
-            Placed::At(_) => mark(versions, k),
-            Placed::Refused(_) => return m,
+    for (m, k) in wanted.iter().enumerate() {
+        let view = View {
+            h,
+            versions,
+            links,
+            keys,
+            values,
+        };
+        match place(view, *k) {
+            Ok(_) => mark(versions, *k),
+            Err(_) => return m,
         }
-        m += 1;
     }
-    m
+    wanted.len()
 }
 
 // Writes the places of the wanted keys, which are their slots' links, into the output from its front on.
@@ -47,11 +51,10 @@ fn write_places(links: &[u32], wanted: &[u64], out: &mut [u32])
     requires { (length wanted.now ≤ length out.old) × ((j : ℕ) → j < length wanted.now → idx (get_or wanted.now j 0) < length links.now) }
     ensures { out.new ≡ put out.old 0 (linked links.now wanted.now) }
 {
-    let mut j = 0;
-    while j < wanted.len() {
-        let i = KeyData::from_ffi(wanted[j]).idx as usize;
+    for (j, k) in wanted.iter().enumerate() {
+        let i = KeyData::from_ffi(*k).idx as usize;
+        // By its index: after a zip with `iter_mut` a proof knows nothing of what was written.
         out[j] = links[i];
-        j += 1;
     }
 }
 
@@ -64,25 +67,34 @@ pub fn disjoint(
     values: &[u64],
     wanted: &[u64],
     out: &mut [u32],
-) -> Verdict
+) -> Result<(), Refusal>
     ensures { leaves (done_said result) out.new versions.new ≡ disjointly (table versions.old links.now keys.now values.now h) wanted.now out.old }
 {
-    if !has_shape(h, versions, links, keys, values) {
-        return Verdict::Refused(Refusal::Shape);
-    }
+    with_shape(View {
+        h,
+        versions,
+        links,
+        keys,
+        values,
+    })?;
     let m = mark_placed(h, versions, links, keys, values, wanted);
     // Marked a second time, the slots are as they were.
     mark_all(versions, &wanted[..m]);
     if m < wanted.len() {
-        // A key that has a place here had none in the marked table because it came before.
-        return match place(h, versions, links, keys, values, wanted[m]) {
-            Placed::At(_) => Verdict::Refused(Refusal::Dead),
-            Placed::Refused(r) => Verdict::Refused(r),
+        let view = View {
+            h,
+            versions,
+            links,
+            keys,
+            values,
         };
+        // A key that has a place here had none in the marked table because it came before.
+        place(view, wanted[m])?;
+        return Err(Refusal::Dead);
     }
     if out.len() < wanted.len() {
-        return Verdict::Refused(Refusal::Short);
+        return Err(Refusal::Short);
     }
     write_places(links, wanted, out);
-    Verdict::Done
+    Ok(())
 }

@@ -1,15 +1,18 @@
 -- What a drain step's answer says on paper. Assumes nothing.
-use Rattle.std.specs.Prelude.{ℕ}
-use Rattle.refusal.specs.Refusals.{number_of}
+use Rattle.std.specs.Prelude.{ℕ, Option, Some, None, Result}
+use Rattle.refusal.specs.declared.Refusal.{Refusal}
 use Rattle.table.specs.Table.{Table, key, val, last, freed_head, freed}
-use Rattle.table.specs.Calls.{Said, Out, said_pair, said_done, refused}
+use Rattle.table.specs.Calls.{Said, Out, said_pair, said_done}
+use Rattle.dense.specs.Answers.{said}
 use Rattle.dense_drain.specs.declared.Drained.{Drained}
-use Rattle.dense_drain.specs.declared.Drained.TheVariants.{Took, Done, Refused}
 
-abbrev pub pair_said : Drained → Said
-pair_said (Took k x) = said_pair k x
-pair_said Done = said_done
-pair_said (Refused r) = refused (number_of r)
+-- what a step takes; nothing, when it is done
+abbrev pub taken_said : Option Drained → Said
+taken_said (Some d) = said_pair d.key d.value
+taken_said None = said_done
+
+abbrev pub pair_said : Result (Option Drained) Refusal → Said
+pair_said = said taken_said
 
 -- ---- for private functions
 

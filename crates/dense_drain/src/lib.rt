@@ -5,51 +5,51 @@ ghost use Rattle.std.specs.Prelude.{◌≡◌, cond, ◌<◌};
 ghost use Rattle.table.specs.Table.{last_idx, last_is_held};
 ghost use Rattle.table.specs.Calls.{found, fails, drain};
 ghost use Rattle.table.proofs.Shape.{Shape};
-ghost use Rattle.dense.specs.Lent.{table};
-ghost use Rattle.dense.specs.Answers.{outcome, slot_judged};
+ghost use Rattle.dense.specs.Lent.{table, seen};
+ghost use Rattle.dense.specs.Answers.{outcome, judged_of};
 ghost use Rattle.dense_drain.specs.Answers.{pair_said, taking};
 
-use dense::{Slot, has_shape};
+use dense::{Shaped, View, with_shape};
 use keys::{KeyData, version_up};
-use refusal::Refusal;
+use refusal::{Changed, Refusal};
 use table::Header;
 
-// What a drain step takes; done where nothing is left.
+// What a drain step takes.
 #[derive(Clone, Copy)]
-pub enum Drained {
-    Took { key: u64, value: u64 },
-    Done,
-    Refused(Refusal),
-}
-
-#[derive(Clone, Copy)]
-pub struct Stepped {
-    pub header: Header,
-    pub answer: Drained,
+pub struct Drained {
+    pub key: u64,
+    pub value: u64,
 }
 
 // The slot of the last element, where the two name each other.
-fn last_slot(h: Header, versions: &[u32], links: &[u32], keys: &[u64], values: &[u64]) -> Slot
-    requires { (Shape (table versions.now links.now keys.now values.now h)) × (0 < h.n) }
-    ensures { slot_judged result ≡ cond (last_is_held (table versions.now links.now keys.now values.now h)) (found (last_idx (table versions.now links.now keys.now values.now h))) (fails 5) }
+fn last_slot(table: Shaped) -> Result<usize, Refusal>
+    requires { 0 < table.view.h.n }
+    ensures { judged_of result ≡ cond (last_is_held (seen table.entry.view)) (found (last_idx (seen table.entry.view))) (fails 5) }
 {
+    let View {
+        h,
+        versions,
+        links,
+        keys,
+        ..
+    } = table.view;
     let last = h.n as usize - 1;
     let key = keys[last];
     let j = KeyData::from_ffi(key).idx;
     if j < 1 {
-        return Slot::Refused(Refusal::Damaged);
+        return Err(Refusal::Damaged);
     }
     if h.s <= j {
-        return Slot::Refused(Refusal::Damaged);
+        return Err(Refusal::Damaged);
     }
     let i = j as usize;
     if versions[i] != KeyData::raw_version(key) {
-        return Slot::Refused(Refusal::Damaged);
+        return Err(Refusal::Damaged);
     }
     if links[i] != h.n - 1 {
-        return Slot::Refused(Refusal::Damaged);
+        return Err(Refusal::Damaged);
     }
-    Slot::At(i)
+    Ok(i)
 }
 
 // Takes the last element, whose slot is given. It writes no place: the key and the value stay where they stood.
@@ -60,7 +60,7 @@ fn take_last(
     keys: &[u64],
     values: &[u64],
     i: usize,
-) -> Stepped
+) -> Changed<Header, Option<Drained>>
     requires { (Shape (table versions.old links.old keys.now values.now h)) × ((0 < h.n) × (i < h.s)) }
     ensures { outcome (pair_said result.answer) (table versions.new links.new keys.now values.now result.header) ≡ taking (table versions.old links.old keys.now values.now h) i }
 {
@@ -69,42 +69,53 @@ fn take_last(
     let value = values[last];
     versions[i] = version_up(versions[i]);
     links[i] = h.f;
-    Stepped {
+    Changed {
         header: Header {
             n: h.n - 1,
             s: h.s,
             f: i as u32,
         },
-        answer: Drained::Took { key, value },
+        answer: Ok(Some(Drained { key, value })),
     }
 }
 
+// Takes the last element; None where nothing is left.
 pub fn drain_step(
     h: Header,
     versions: &mut [u32],
     links: &mut [u32],
     keys: &[u64],
     values: &[u64],
-) -> Stepped
+) -> Changed<Header, Option<Drained>>
     ensures { outcome (pair_said result.answer) (table versions.new links.new keys.now values.now result.header) ≡ drain (table versions.old links.old keys.now values.now h) }
 {
-    if !has_shape(h, versions, links, keys, values) {
-        return Stepped {
-            header: h,
-            answer: Drained::Refused(Refusal::Shape),
-        };
-    }
+    let view = View {
+        h,
+        versions,
+        links,
+        keys,
+        values,
+    };
+    let table = match with_shape(view) {
+        Ok(table) => table,
+        Err(why) => {
+            return Changed {
+                header: h,
+                answer: Err(why),
+            };
+        }
+    };
     if h.n == 0 {
-        return Stepped {
+        return Changed {
             header: h,
-            answer: Drained::Done,
+            answer: Ok(None),
         };
     }
-    match last_slot(h, versions, links, keys, values) {
-        Slot::At(i) => take_last(h, versions, links, keys, values, i),
-        Slot::Refused(r) => Stepped {
+    match last_slot(table) {
+        Ok(i) => take_last(h, versions, links, keys, values, i),
+        Err(why) => Changed {
             header: h,
-            answer: Drained::Refused(r),
+            answer: Err(why),
         },
     }
 }

@@ -7,16 +7,11 @@ ghost use Rattle.table.proofs.Judged.{Roomy};
 ghost use Rattle.dense.specs.Lent.{table};
 ghost use Rattle.dense.specs.Answers.{outcome, value_said, issued_said};
 
-use dense::{Found, Issued, Placed, place};
+use dense::{View, place};
 use dense_next::next_key;
 use keys::odd_version;
+use refusal::{Changed, Refusal};
 use table::Header;
-
-#[derive(Clone, Copy)]
-pub struct Inserted {
-    pub header: Header,
-    pub answer: Issued,
-}
 
 pub fn put(
     h: Header,
@@ -26,17 +21,20 @@ pub fn put(
     values: &mut [u64],
     k: u64,
     x: u64,
-) -> Found
+) -> Result<u64, Refusal>
     ensures { outcome (value_said result) (table versions.now links.now keys.now values.new h) ≡ put (table versions.now links.now keys.now values.old h) k x }
 {
-    match place(h, versions, links, keys, values, k) {
-        Placed::At(p) => {
-            let old = values[p];
-            values[p] = x;
-            Found::Value(old)
-        }
-        Placed::Refused(r) => Found::Refused(r),
-    }
+    let view = View {
+        h,
+        versions,
+        links,
+        keys,
+        values,
+    };
+    let p = place(view, k)?;
+    let old = values[p];
+    values[p] = x;
+    Ok(old)
 }
 
 // Stores a new element in the free head, or in a new slot where there is none.
@@ -83,20 +81,19 @@ pub fn insert(
     keys: &mut [u64],
     values: &mut [u64],
     x: u64,
-) -> Inserted
+) -> Changed<Header, u64>
     ensures { outcome (issued_said result.answer) (table versions.new links.new keys.new values.new result.header) ≡ insert (table versions.old links.old keys.old values.old h) x }
 {
-    match next_key(h, versions, links, keys, values) {
-        Issued::Key(k) => {
-            let g = fill(h, versions, links, keys, values, k, x);
-            Inserted {
-                header: g,
-                answer: Issued::Key(k),
-            }
-        }
-        Issued::Refused(r) => Inserted {
-            header: h,
-            answer: Issued::Refused(r),
-        },
-    }
+    let answer = next_key(View {
+        h,
+        versions,
+        links,
+        keys,
+        values,
+    });
+    let header = match answer {
+        Ok(k) => fill(h, versions, links, keys, values, k, x),
+        Err(_) => h,
+    };
+    Changed { header, answer }
 }

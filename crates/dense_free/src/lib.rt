@@ -5,27 +5,22 @@
 ghost use Rattle.std.specs.Prelude.{◌≡◌, ◌&&◌, ◌<◌, eqb};
 ghost use Rattle.lists.specs.Count.{count};
 ghost use Rattle.table.specs.Sound.{is_waiting, leads, steps};
-ghost use Rattle.table.proofs.Shape.{Shape};
-ghost use Rattle.dense.specs.Lent.{table};
+ghost use Rattle.dense.specs.Lent.{seen};
 ghost use Rattle.dense_free.specs.Holds.{free_list_holds};
 
-use dense::{DETACHED, has_shape};
+use dense::{DETACHED, Shaped, View, with_shape};
 use keys::is_odd;
-use table::Header;
 
 // Whether slot i has to be on the free list: it is vacant and not detached.
-fn is_waiting(
-    h: Header,
-    versions: &[u32],
-    links: &[u32],
-    keys: &[u64],
-    values: &[u64],
-    i: u32,
-) -> bool
-    requires shape { Shape (table versions.now links.now keys.now values.now h) }
-    requires i_lt_s { i < h.s }
-    ensures { result ≡ is_waiting (table versions.now links.now keys.now values.now h) i }
+fn is_waiting(table: Shaped, i: u32) -> bool
+    requires { i < table.view.h.s }
+    ensures { result ≡ is_waiting (seen table.entry.view) i }
 {
+    let View {
+        versions,
+        links,
+        ..
+    } = table.view;
     if i < 1 {
         return false;
     }
@@ -36,33 +31,28 @@ fn is_waiting(
 }
 
 // How many slots have to be on the free list.
-fn waiting_slots(h: Header, versions: &[u32], links: &[u32], keys: &[u64], values: &[u64]) -> u32
-    requires { Shape (table versions.now links.now keys.now values.now h) }
-    ensures { result ≡ count (is_waiting (table versions.now links.now keys.now values.now h)) h.s }
+fn waiting_slots(table: Shaped) -> u32
+    ensures { result ≡ count (is_waiting (seen table.entry.view)) table.entry.view.h.s }
 {
     let mut m: u32 = 0;
-    let mut i: u32 = 0;
-    while i < h.s {
-        if is_waiting(h, versions, links, keys, values, i) {
+    for i in 0..table.view.h.s {
+        if is_waiting(table, i) {
             m += 1;
         }
-        i += 1;
     }
     m
 }
 
 // Whether the free list is m vacant slots from 1 up and then ends. A list that goes on after s steps goes round.
-fn is_free_list(
-    h: Header,
-    versions: &[u32],
-    links: &[u32],
-    keys: &[u64],
-    values: &[u64],
-    m: u32,
-) -> bool
-    requires { Shape (table versions.now links.now keys.now values.now h) }
-    ensures { result ≡ (leads (table versions.now links.now keys.now values.now h) h.s h.f && eqb (steps (table versions.now links.now keys.now values.now h) h.s h.f) m) }
+fn is_free_list(table: Shaped, m: u32) -> bool
+    ensures { result ≡ (leads (seen table.entry.view) table.entry.view.h.s table.entry.view.h.f && eqb (steps (seen table.entry.view) table.entry.view.h.s table.entry.view.h.f) m) }
 {
+    let View {
+        h,
+        versions,
+        links,
+        ..
+    } = table.view;
     let mut met: u32 = 0;
     let mut g = h.f;
     while g != h.s {
@@ -85,18 +75,11 @@ fn is_free_list(
 }
 
 // Whether the shape holds, and the free list is every slot that has to be on it and then ends.
-pub fn free_list_holds(
-    h: Header,
-    versions: &[u32],
-    links: &[u32],
-    keys: &[u64],
-    values: &[u64],
-) -> bool
-    ensures { result ≡ free_list_holds (table versions.now links.now keys.now values.now h) }
+pub fn free_list_holds(view: View) -> bool
+    ensures { result ≡ free_list_holds (seen view.entry) }
 {
-    if !has_shape(h, versions, links, keys, values) {
-        return false;
+    match with_shape(view) {
+        Ok(table) => is_free_list(table, waiting_slots(table)),
+        Err(_) => false,
     }
-    let m = waiting_slots(h, versions, links, keys, values);
-    is_free_list(h, versions, links, keys, values, m)
 }

@@ -1,65 +1,35 @@
 // The dense table over lent arrays: the calls that take an element out. Each judges first, on shared slices, and then only stores.
 #![tactic(auto)]
 
-ghost use Rattle.std.specs.Prelude.{◌≡◌, cond, ◌<◌, length, get_or, set};
+ghost use Rattle.std.specs.Prelude.{◌≡◌, ◌<◌, length, get_or, set};
 ghost use Rattle.keys.specs.Keys.{up};
-ghost use Rattle.table.specs.Table.{last_in_range, left};
-ghost use Rattle.table.specs.Calls.{found, fails, leaving, remove, detach};
-ghost use Rattle.table.proofs.Shape.{Shape};
+ghost use Rattle.table.specs.Table.{left};
+ghost use Rattle.table.specs.Calls.{leaving, remove, detach};
 ghost use Rattle.table.proofs.Judged.{Leaving};
-ghost use Rattle.dense.specs.Lent.{table};
+ghost use Rattle.dense.specs.Lent.{table, seen};
 ghost use Rattle.dense.specs.Answers.{outcome, judged_of, value_said};
 ghost use Rattle.dense_leave.specs.Taken.{taken};
 
-use dense::{DETACHED, Found, Placed, place};
+use dense::{DETACHED, View, place};
 use keys::{KeyData, version_up};
-use refusal::Refusal;
+use refusal::{Changed, Refusal};
 use table::Header;
 
-#[derive(Clone, Copy)]
-pub struct Removed {
-    pub header: Header,
-    pub answer: Found,
-}
-
-// Whether the last key names a slot, where the element at a place may leave.
-fn last_in(
-    h: Header,
-    versions: &[u32],
-    links: &[u32],
-    keys: &[u64],
-    values: &[u64],
-    p: usize,
-) -> Placed
-    requires { (Shape (table versions.now links.now keys.now values.now h)) × (p < h.n) }
-    ensures { judged_of result ≡ cond (last_in_range (table versions.now links.now keys.now values.now h)) (found p) (fails 5) }
+// Judges a key whose element is to leave: its place, where the last key names a slot.
+fn leaving(view: View, k: u64) -> Result<usize, Refusal>
+    ensures { judged_of result ≡ leaving (seen view.entry) k }
 {
+    let p = place(view, k)?;
+    let View { h, keys, .. } = view;
     let last = h.n as usize - 1;
     let j = KeyData::from_ffi(keys[last]).idx;
     if j < 1 {
-        return Placed::Refused(Refusal::Damaged);
+        return Err(Refusal::Damaged);
     }
     if h.s <= j {
-        return Placed::Refused(Refusal::Damaged);
+        return Err(Refusal::Damaged);
     }
-    Placed::At(p)
-}
-
-// Judges a key whose element is to leave.
-fn leaving(
-    h: Header,
-    versions: &[u32],
-    links: &[u32],
-    keys: &[u64],
-    values: &[u64],
-    k: u64,
-) -> Placed
-    ensures { judged_of result ≡ leaving (table versions.now links.now keys.now values.now h) k }
-{
-    match place(h, versions, links, keys, values, k) {
-        Placed::At(p) => last_in(h, versions, links, keys, values, p),
-        Placed::Refused(r) => Placed::Refused(r),
-    }
+    Ok(p)
 }
 
 // Lets a slot's element go: its version goes up and its link becomes the given one. Answers the link that it had.
@@ -111,26 +81,33 @@ fn take(
     k: u64,
     link: u32,
     f: u32,
-) -> Removed
+) -> Changed<Header, u64>
     ensures { outcome (value_said result.answer) (table versions.new links.new keys.new values.new result.header) ≡ taken (table versions.old links.old keys.old values.old h) k link f }
 {
-    match leaving(h, versions, links, keys, values, k) {
-        Placed::At(p) => {
+    let view = View {
+        h,
+        versions,
+        links,
+        keys,
+        values,
+    };
+    match leaving(view, k) {
+        Ok(p) => {
             let x = values[p];
             let i = KeyData::from_ffi(k).idx;
             remove_from_slot(h, versions, links, keys, values, i, link);
-            Removed {
+            Changed {
                 header: Header {
                     n: h.n - 1,
                     s: h.s,
                     f,
                 },
-                answer: Found::Value(x),
+                answer: Ok(x),
             }
         }
-        Placed::Refused(r) => Removed {
+        Err(why) => Changed {
             header: h,
-            answer: Found::Refused(r),
+            answer: Err(why),
         },
     }
 }
@@ -142,7 +119,7 @@ pub fn remove(
     keys: &mut [u64],
     values: &mut [u64],
     k: u64,
-) -> Removed
+) -> Changed<Header, u64>
     ensures { outcome (value_said result.answer) (table versions.new links.new keys.new values.new result.header) ≡ remove (table versions.old links.old keys.old values.old h) k }
 {
     let i = KeyData::from_ffi(k).idx;
@@ -156,7 +133,7 @@ pub fn detach(
     keys: &mut [u64],
     values: &mut [u64],
     k: u64,
-) -> Removed
+) -> Changed<Header, u64>
     ensures { outcome (value_said result.answer) (table versions.new links.new keys.new values.new result.header) ≡ detach (table versions.old links.old keys.old values.old h) k }
 {
     take(h, versions, links, keys, values, k, DETACHED, h.f)

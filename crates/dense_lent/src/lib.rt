@@ -7,7 +7,8 @@ ghost use Rattle.dense.specs.Lent.{table};
 ghost use Rattle.dense.specs.Answers.{outcome};
 ghost use Rattle.dense_drain.specs.Answers.{pair_said};
 
-use dense_drain::{Drained, Stepped, drain_step};
+use dense_drain::{Drained, drain_step};
+use refusal::{Changed, Refusal};
 use table::Header;
 
 pub fn drain_step_in(
@@ -16,7 +17,7 @@ pub fn drain_step_in(
     links: &mut [u32],
     keys: &[u64],
     values: &[u64],
-) -> Drained
+) -> Result<Option<Drained>, Refusal>
     ensures { outcome (pair_said result) (table versions.new links.new keys.now values.now h.new) ≡ drain (table versions.old links.old keys.now values.now h.old) }
 {
     let d = drain_step(*h, versions, links, keys, values);
@@ -31,10 +32,10 @@ pub fn drain_step_by(
     links: &mut [u32],
     keys: &[u64],
     values: &[u64],
-) -> Stepped
+) -> Changed<Header, Option<Drained>>
     ensures { outcome (pair_said result.answer) (table versions.new links.new keys.now values.now result.header) ≡ drain (table versions.old links.old keys.now values.now h) }
 {
     let mut g = h;
     let answer = drain_step_in(&mut g, versions, links, keys, values);
-    Stepped { header: g, answer }
+    Changed { header: g, answer }
 }

@@ -5,57 +5,52 @@ ghost use Rattle.std.specs.Prelude.{◌≡◌};
 ghost use Rattle.keys.specs.Keys.{down};
 ghost use Rattle.table.specs.Table.{ver, rejoined_head, entered};
 ghost use Rattle.table.specs.Calls.{berth_in, berth, reattach};
-ghost use Rattle.table.proofs.Shape.{Shape};
 ghost use Rattle.table.proofs.Judged.{Joining};
-ghost use Rattle.dense.specs.Lent.{table};
-ghost use Rattle.dense.specs.Answers.{outcome, slot_judged, done_said};
+ghost use Rattle.dense.specs.Lent.{table, seen};
+ghost use Rattle.dense.specs.Answers.{outcome, judged_of, done_said};
 
-use dense::{Changed, DETACHED, Slot, Verdict, has_shape};
+use dense::{DETACHED, Shaped, View, with_shape};
 use keys::{KeyData, version_down, version_up};
-use refusal::Refusal;
+use refusal::{Changed, Refusal};
 use table::Header;
 
-// The detached slot of a key, on a table that has its shape.
+// The detached slot of a key.
 #[tactic(auto, unfolding(table::specs::Calls::berth_in, table::specs::Table::is_detached), using(std::proofs::lemmas::Bool::Decides::nat_tests))]
-fn berth_in(
-    h: Header,
-    versions: &[u32],
-    links: &[u32],
-    keys: &[u64],
-    values: &[u64],
-    key: KeyData,
-) -> Slot
-    requires { Shape (table versions.now links.now keys.now values.now h) }
-    ensures { slot_judged result ≡ berth_in (table versions.now links.now keys.now values.now h) key.idx key.version }
+fn berth_in(table: Shaped, key: KeyData) -> Result<usize, Refusal>
+    ensures { judged_of result ≡ berth_in (seen table.entry.view) key.idx key.version }
 {
+    let View {
+        h,
+        versions,
+        links,
+        ..
+    } = table.view;
     let i = key.idx;
     if i < 1 {
-        return Slot::Refused(Refusal::NotDetached);
+        return Err(Refusal::NotDetached);
     }
     if h.s <= i {
-        return Slot::Refused(Refusal::NotDetached);
+        return Err(Refusal::NotDetached);
     }
     let at = i as usize;
     if versions[at] != version_up(key.version) {
-        return Slot::Refused(Refusal::NotDetached);
+        return Err(Refusal::NotDetached);
     }
     if links[at] != DETACHED {
-        return Slot::Refused(Refusal::NotDetached);
+        return Err(Refusal::NotDetached);
     }
     if h.s - 1 <= h.n {
-        return Slot::Refused(Refusal::Damaged);
+        return Err(Refusal::Damaged);
     }
-    Slot::At(at)
+    Ok(at)
 }
 
 // Judges a key that is to be attached again.
-fn berth(h: Header, versions: &[u32], links: &[u32], keys: &[u64], values: &[u64], k: u64) -> Slot
-    ensures { slot_judged result ≡ berth (table versions.now links.now keys.now values.now h) k }
+fn berth(view: View, k: u64) -> Result<usize, Refusal>
+    ensures { judged_of result ≡ berth (seen view.entry) k }
 {
-    if !has_shape(h, versions, links, keys, values) {
-        return Slot::Refused(Refusal::Shape);
-    }
-    berth_in(h, versions, links, keys, values, KeyData::from_ffi(k))
+    let table = with_shape(view)?;
+    berth_in(table, KeyData::from_ffi(k))
 }
 
 // Stores an element in its detached slot again.
@@ -92,21 +87,28 @@ pub fn reattach(
     values: &mut [u64],
     k: u64,
     x: u64,
-) -> Changed
+) -> Changed<Header, ()>
     ensures { outcome (done_said result.answer) (table versions.new links.new keys.new values.new result.header) ≡ reattach (table versions.old links.old keys.old values.old h) k x }
 {
-    match berth(h, versions, links, keys, values, k) {
-        Slot::At(i) => {
+    let view = View {
+        h,
+        versions,
+        links,
+        keys,
+        values,
+    };
+    match berth(view, k) {
+        Ok(i) => {
             let key = KeyData::from_ffi(k).as_ffi();
-            let g = rejoin(h, versions, links, keys, values, i, key, x);
+            let header = rejoin(h, versions, links, keys, values, i, key, x);
             Changed {
-                header: g,
-                answer: Verdict::Done,
+                header,
+                answer: Ok(()),
             }
         }
-        Slot::Refused(r) => Changed {
+        Err(why) => Changed {
             header: h,
-            answer: Verdict::Refused(r),
+            answer: Err(why),
         },
     }
 }

@@ -8,10 +8,11 @@ ghost use Rattle.table.specs.Sweeps.{retaining, retain};
 ghost use Rattle.dense.specs.Lent.{table};
 ghost use Rattle.dense.specs.Answers.{outcome, done_said};
 
-use dense::{Changed, Verdict};
+use dense::View;
 use dense_leave::remove;
 use dense_sweep::asked;
 use keys::KeyData;
+use refusal::Changed;
 use rules::{Rule, keeps};
 use table::Header;
 
@@ -49,20 +50,24 @@ pub fn retain(
     keys: &mut [u64],
     values: &mut [u64],
     rule: Rule,
-) -> Changed
+) -> Changed<Header, ()>
     ensures { outcome (done_said result.answer) (table versions.new links.new keys.new values.new result.header) ≡ retain (table versions.old links.old keys.old values.old h) rule }
 {
-    match asked(h, versions, links, keys, values) {
-        Verdict::Done => {
-            let g = sift(h, versions, links, keys, values, rule);
-            Changed {
-                header: g,
-                answer: Verdict::Done,
-            }
-        }
-        Verdict::Refused(r) => Changed {
+    let view = View {
+        h,
+        versions,
+        links,
+        keys,
+        values,
+    };
+    match asked(view) {
+        Ok(()) => Changed {
+            header: sift(h, versions, links, keys, values, rule),
+            answer: Ok(()),
+        },
+        Err(why) => Changed {
             header: h,
-            answer: Verdict::Refused(r),
+            answer: Err(why),
         },
     }
 }

@@ -4,20 +4,24 @@
 ghost use Rattle.std.specs.Prelude.{◌≡◌, ◌<◌};
 ghost use Rattle.lists.specs.Count.{count, every};
 ghost use Rattle.table.specs.Sound.{is_odd, is_home, is_sound};
-ghost use Rattle.table.proofs.Shape.{Shape};
-ghost use Rattle.dense.specs.Lent.{table};
+ghost use Rattle.dense.specs.Lent.{seen};
 
-use dense::has_shape;
+use dense::{Shaped, View, with_shape};
 use dense_free::free_list_holds;
 use keys::{KeyData, is_odd};
-use table::Header;
 
 // Whether the key at place p and its slot name each other.
-fn is_home(h: Header, versions: &[u32], links: &[u32], keys: &[u64], values: &[u64], p: u32) -> bool
-    requires shape { Shape (table versions.now links.now keys.now values.now h) }
-    requires p_lt_n { p < h.n }
-    ensures { result ≡ is_home (table versions.now links.now keys.now values.now h) p }
+fn is_home(table: Shaped, p: u32) -> bool
+    requires { p < table.view.h.n }
+    ensures { result ≡ is_home (seen table.entry.view) p }
 {
+    let View {
+        h,
+        versions,
+        links,
+        keys,
+        ..
+    } = table.view;
     let k = keys[p as usize];
     let i = KeyData::from_ffi(k).idx;
     if i < 1 {
@@ -37,63 +41,63 @@ fn is_home(h: Header, versions: &[u32], links: &[u32], keys: &[u64], values: &[u
 }
 
 // Whether every place's key is at home.
-fn are_home(h: Header, versions: &[u32], links: &[u32], keys: &[u64], values: &[u64]) -> bool
-    requires { Shape (table versions.now links.now keys.now values.now h) }
-    ensures { result ≡ every (is_home (table versions.now links.now keys.now values.now h)) h.n }
+fn are_home(table: Shaped) -> bool
+    ensures { result ≡ every (is_home (seen table.entry.view)) table.entry.view.h.n }
 {
-    let mut p: u32 = 0;
-    while p < h.n {
-        if !is_home(h, versions, links, keys, values, p) {
+    for p in 0..table.view.h.n {
+        if !is_home(table, p) {
             return false;
         }
-        p += 1;
     }
     true
 }
 
 // How many slots have odd versions.
-fn odd_slots(h: Header, versions: &[u32], links: &[u32], keys: &[u64], values: &[u64]) -> u32
-    requires { Shape (table versions.now links.now keys.now values.now h) }
-    ensures { result ≡ count (is_odd (table versions.now links.now keys.now values.now h)) h.s }
+fn odd_slots(table: Shaped) -> u32
+    ensures { result ≡ count (is_odd (seen table.entry.view)) table.entry.view.h.s }
 {
+    let View { h, versions, .. } = table.view;
     let mut m: u32 = 0;
-    let mut i: u32 = 0;
-    while i < h.s {
+    for i in 0..h.s {
         if is_odd(versions[i as usize]) {
             m += 1;
         }
-        i += 1;
     }
     m
 }
 
 // The check of a table that has its shape.
 #[tactic(auto, using(crate::proofs::Checks::checks))]
-fn is_sound_in(h: Header, versions: &[u32], links: &[u32], keys: &[u64], values: &[u64]) -> bool
-    requires { Shape (table versions.now links.now keys.now values.now h) }
-    ensures { result ≡ is_sound (table versions.now links.now keys.now values.now h) }
+fn is_sound_in(table: Shaped) -> bool
+    ensures { result ≡ is_sound (seen table.entry.view) }
 {
+    let View {
+        h,
+        versions,
+        links,
+        ..
+    } = table.view;
     if versions[0] != 0 {
         return false;
     }
     if links[0] != 0 {
         return false;
     }
-    if !are_home(h, versions, links, keys, values) {
+    if !are_home(table) {
         return false;
     }
-    if odd_slots(h, versions, links, keys, values) != h.n {
+    if odd_slots(table) != h.n {
         return false;
     }
-    free_list_holds(h, versions, links, keys, values)
+    free_list_holds(table.view)
 }
 
 // Whether a table is sound. It answers on any arrays and any header.
-pub fn is_sound(h: Header, versions: &[u32], links: &[u32], keys: &[u64], values: &[u64]) -> bool
-    ensures { result ≡ is_sound (table versions.now links.now keys.now values.now h) }
+pub fn is_sound(view: View) -> bool
+    ensures { result ≡ is_sound (seen view.entry) }
 {
-    if !has_shape(h, versions, links, keys, values) {
-        return false;
+    match with_shape(view) {
+        Ok(table) => is_sound_in(table),
+        Err(_) => false,
     }
-    is_sound_in(h, versions, links, keys, values)
 }

@@ -2,24 +2,21 @@
 #![tactic(auto)]
 
 ghost use Rattle.std.specs.Prelude.{◌≡◌};
-ghost use Rattle.dense.specs.Lent.{table};
+ghost use Rattle.dense.specs.Lent.{seen};
 ghost use Rattle.dense.specs.Answers.{done_said};
 ghost use Rattle.dense_sweep.specs.Asked.{asked_said};
 
-use dense::{Verdict, has_shape};
+use dense::{View, with_shape};
 use dense_sound::is_sound;
 use refusal::Refusal;
-use table::Header;
 
 // Whether a table may be swept.
-pub fn asked(h: Header, versions: &[u32], links: &[u32], keys: &[u64], values: &[u64]) -> Verdict
-    ensures { done_said result ≡ asked_said (table versions.now links.now keys.now values.now h) }
+pub fn asked(view: View) -> Result<(), Refusal>
+    ensures { done_said result ≡ asked_said (seen view.entry) }
 {
-    if !has_shape(h, versions, links, keys, values) {
-        return Verdict::Refused(Refusal::Shape);
+    let table = with_shape(view)?;
+    if !is_sound(table.view) {
+        return Err(Refusal::Damaged);
     }
-    if !is_sound(h, versions, links, keys, values) {
-        return Verdict::Refused(Refusal::Damaged);
-    }
-    Verdict::Done
+    Ok(())
 }

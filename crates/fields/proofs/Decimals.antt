@@ -11,11 +11,12 @@ use lib.ListN.{length, take, drop, get_or, take-append-drop, get_or-append}
 use lib.Seq.{get_or-drop, drop-drop}
 use lib.Dec.{ltb, leb, eqb}
 use borrow.Author.Tests.{eqb-false, leb-true, ltb-true, ltb-false, lt-ltb, le-ltb, eq-eqb, ne_eqb}
+use Rattle.std.specs.Prelude.{None}
 use Rattle.text.specs.Text.{digits, decimal, digit_of, value_from, value_of}
 use Rattle.text.proofs.Decimal.{digits_step, digits_zero, length-decimal}
 use Rattle.text.proofs.Reading.{value-decimal_then, decimal-bytes, decimal-first}
-use Rattle.fields.specs.declared.Number.TheVariants.{Is, Wrong}
-use Rattle.fields.specs.Fields.{digits_in, number_at}
+use Rattle.fields.specs.declared.Number.{Number}
+use Rattle.fields.specs.Fields.{reads, digits_in, number_at}
 use Rattle.fields.proofs.Numbers.{digit_in, stops, value_ge}
 
 -- ---- bytes and digits
@@ -73,11 +74,11 @@ module _ (limit : ℕ) (line : List ℕ) (at n : ℕ) (rest : List ℕ) (there :
       no_zero h =
           rw (ne_eqb (digit_of (get_or line at 0)) 0 (λ z. omega (arith, is_first, decimal-first n h, digit-byte (get_or line at 0) (omega arith))))
 
-  pub number_read : number_at limit line at ≡ Is n (at + length (decimal n))
+  pub number_read : number_at limit line at ≡ reads n (at + length (decimal n))
   unfolding number_at
   number_read =
       rw (le-ltb limit (value_of (drop at line)) (omega (arith, is_value)), ne_eqb (digits_in (drop at line)) 0 (λ z. omega (arith, is_count, length-decimal n)), leading)
-      (ap₂ Is is_value (ap (λ (k : ℕ). at + k) is_count))
+      (ap₂ reads is_value (ap (λ (k : ℕ). at + k) is_count))
 
 -- ---- what is read would be written so
 
@@ -168,14 +169,16 @@ record Found (a b c : Bool) (w m v n : ℕ) : Type 0 where
   value : w ≡ v
   after : m ≡ n
 
-found : (a b c : Bool) (w m v n : ℕ) → cond a Wrong (cond b Wrong (cond c Wrong (Is w m))) ≡ Is v n → Found a b c w m v n
+found : (a b c : Bool) (w m v n : ℕ) → cond a None (cond b None (cond c None (reads w m))) ≡ reads v n → Found a b c w m v n
 found true b c w m v n e = let z : ◌≡◌ {A = ℕ} 0 1 = cc in absurd (omega arith)
 found false true c w m v n e = let z : ◌≡◌ {A = ℕ} 0 1 = cc in absurd (omega arith)
 found false false true w m v n e = let z : ◌≡◌ {A = ℕ} 0 1 = cc in absurd (omega arith)
-found false false false w m v n e = record { second = refl; third = refl; value = cc; after = cc }
+found false false false w m v n e =
+    let same : ◌≡◌ {A = Number} (record { value = w; next = m }) (record { value = v; next = n }) = cc in
+    record { second = refl; third = refl; value = ap (λ (r : Number). r.value) same; after = ap (λ (r : Number). r.next) same }
 
 -- a number that is read stands there as its decimal text, up to the place after it
-pub number-written : (limit : ℕ) (line : List ℕ) (at v n : ℕ) → number_at limit line at ≡ Is v n → drop at line ≡ decimal v ++ drop n line
+pub number-written : (limit : ℕ) (line : List ℕ) (at v n : ℕ) → number_at limit line at ≡ reads v n → drop at line ≡ decimal v ++ drop n line
 unfolding number_at
 number-written limit line at v n e =
     sym (take-append-drop (digits_in (drop at line)) (drop at line)) ∙ ap₂ ◌++◌ text rest

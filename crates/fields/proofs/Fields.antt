@@ -4,11 +4,11 @@ use mathlib.Core.List.{List}
 use Prim.Native.Nat.{ℕ, ◌+◌, ◌≤◌}
 use lib.ListN.{length, get_or, get_or-eq_default}
 use borrow.Author.Tests.{eq-eqb, ne_eqb}
-use Rattle.fields.specs.declared.Number.TheVariants.{Wrong}
+use Rattle.std.specs.Prelude.{None}
 use Rattle.fields.specs.Fields.{number_at, field_at}
 
 module _ (limit : ℕ) (line : List ℕ) (at : ℕ) where
-  pub field_past : length line ≤ at → Wrong ≡ field_at limit line at
+  pub field_past : length line ≤ at → None ≡ field_at limit line at
   unfolding field_at
   field_past h = rw (get_or-eq_default line 0 h)
 
@@ -16,6 +16,6 @@ module _ (limit : ℕ) (line : List ℕ) (at : ℕ) where
   unfolding field_at
   field-space e = rw (eq-eqb (get_or line at 0) 32 e)
 
-  pub field-other : (get_or line at 0 ≡ 32 → ⊥) → Wrong ≡ field_at limit line at
+  pub field-other : (get_or line at 0 ≡ 32 → ⊥) → None ≡ field_at limit line at
   unfolding field_at
   field-other f = rw (ne_eqb (get_or line at 0) 32 f)

@@ -11,9 +11,9 @@ use lib.Seq.{drop-cons, get_or-drop}
 use lib.Dec.{ltb, eqb}
 use borrow.Author.Tests.{ltb-false, lt-ltb, le-ltb, le-leb, lt-leb, eq-eqb, ne_eqb}
 use Rattle.fields.specs.declared.Number.{Number}
-use Rattle.fields.specs.declared.Number.TheVariants.{Is, Wrong}
+use Rattle.std.specs.Prelude.{Option, Some, None}
 use Rattle.text.specs.Text.{digit_of, value_from, value_of}
-use Rattle.fields.specs.Fields.{digits_in, number_at, field_at}
+use Rattle.fields.specs.Fields.{reads, digits_in, number_at, field_at}
 
 pub digit_low : (b : ℕ) → b < 48 → digit_of b ≡ 10
 unfolding digit_of
@@ -85,7 +85,7 @@ module _ (limit : ℕ) (s : List ℕ) (at d i v : ℕ) (r : Reading limit s at d
     pub turn : (e : ℕ) → e ≡ digit_of (get_or s (i + 1) 0) → v * 10 + d ≤ limit → Reading limit s at e (i + 1) (v * 10 + d)
     turn e p l = record { digit = p; after = omega arith; small = l; digits = omega (arith, digits_more s i below); value = more }
 
-    pub turn_over : limit < v * 10 + d → Wrong ≡ number_at limit s at
+    pub turn_over : limit < v * 10 + d → None ≡ number_at limit s at
     unfolding number_at
     turn_over l = rw (lt-ltb limit (value_of (drop at s)) (omega (arith, more, value_ge (drop (i + 1) s) (v * 10 + d))))
 
@@ -103,7 +103,7 @@ module _ (limit : ℕ) (s : List ℕ) (at d i v : ℕ) (r : Reading limit s at d
     fits : ltb limit (value_of (drop at s)) ≡ false
     fits = le-ltb limit (value_of (drop at s)) (omega (arith, same))
 
-    pub out_none : i ≡ at → Wrong ≡ number_at limit s at
+    pub out_none : i ≡ at → None ≡ number_at limit s at
     unfolding number_at
     out_none e = rw (fits, eq-eqb (digits_in (drop at s)) 0 (omega (arith, last)))
 
@@ -111,25 +111,25 @@ module _ (limit : ℕ) (s : List ℕ) (at d i v : ℕ) (r : Reading limit s at d
       there : eqb (digits_in (drop at s)) 0 ≡ false
       there = ne_eqb (digits_in (drop at s)) 0 (λ z. some (omega (arith, last)))
 
-      pub out-leads : digit_of (get_or s at 0) ≡ 0 → 1 < i - at → Wrong ≡ number_at limit s at
+      pub out-leads : digit_of (get_or s at 0) ≡ 0 → 1 < i - at → None ≡ number_at limit s at
       unfolding number_at
       out-leads e l = rw (fits, there, eq-eqb (digit_of (get_or s at 0)) 0 e, lt-ltb 1 (digits_in (drop at s)) (omega (arith, last)))
 
-      pub out_zero : digit_of (get_or s at 0) ≡ 0 → i - at ≤ 1 → Is v i ≡ number_at limit s at
+      pub out_zero : digit_of (get_or s at 0) ≡ 0 → i - at ≤ 1 → reads v i ≡ number_at limit s at
       unfolding number_at
       out_zero e l =
-          rw (fits, there, eq-eqb (digit_of (get_or s at 0)) 0 e, le-ltb 1 (digits_in (drop at s)) (omega (arith, last))) (ap₂ Is same last)
+          rw (fits, there, eq-eqb (digit_of (get_or s at 0)) 0 e, le-ltb 1 (digits_in (drop at s)) (omega (arith, last))) (ap₂ reads same last)
 
-      pub out-plain : (digit_of (get_or s at 0) ≡ 0 → ⊥) → Is v i ≡ number_at limit s at
+      pub out-plain : (digit_of (get_or s at 0) ≡ 0 → ⊥) → reads v i ≡ number_at limit s at
       unfolding number_at
-      out-plain f = rw (fits, there, ne_eqb (digit_of (get_or s at 0)) 0 f) (ap₂ Is same last)
+      out-plain f = rw (fits, there, ne_eqb (digit_of (get_or s at 0)) 0 f) (ap₂ reads same last)
 
 -- a number that is read is within the limit
-pub UpTo : ℕ → Number → Type 0
-UpTo limit (Is v n) = v ≤ limit
-UpTo limit Wrong = Unit {0}
+pub UpTo : ℕ → Option Number → Type 0
+UpTo limit (Some r) = r.value ≤ limit
+UpTo limit None = Unit {0}
 
-judged-small : (limit v n : ℕ) (a b c : Bool) → ltb limit v ≡ a → UpTo limit (cond a Wrong (cond b Wrong (cond c Wrong (Is v n))))
+judged-small : (limit v n : ℕ) (a b c : Bool) → ltb limit v ≡ a → UpTo limit (cond a None (cond b None (cond c None (reads v n))))
 unfolding UpTo
 judged-small limit v n true b c e = tt
 judged-small limit v n false true c e = tt
@@ -142,12 +142,12 @@ number_small limit s at =
     judged-small limit (value_of (drop at s)) (at + digits_in (drop at s)) (ltb limit (value_of (drop at s))) (eqb (digits_in (drop at s)) 0)
     (eqb (digit_of (get_or s at 0)) 0 && ltb 1 (digits_in (drop at s))) refl
 
-field_cases : (limit : ℕ) (r : Number) (t : Bool) → UpTo limit r → UpTo limit (cond t r Wrong)
+field_cases : (limit : ℕ) (r : Option Number) (t : Bool) → UpTo limit r → UpTo limit (cond t r None)
 unfolding UpTo
 field_cases limit r true h = h
 field_cases limit r false h = tt
 
-pub field-small : (limit : ℕ) (s : List ℕ) (at v n : ℕ) → Is v n ≡ field_at limit s at → v ≤ limit
+pub field-small : (limit : ℕ) (s : List ℕ) (at v n : ℕ) → reads v n ≡ field_at limit s at → v ≤ limit
 unfolding field_at UpTo
 field-small limit s at v n e =
     subst (UpTo limit) (sym e) (field_cases limit (number_at limit s (at + 1)) (eqb (get_or s at 0) 32) (number_small limit s (at + 1)))

@@ -5,11 +5,11 @@ ghost use Rattle.std.specs.Prelude.{◌≡◌, get_or};
 ghost use Rattle.text.specs.Text.{digit_of};
 ghost use Rattle.fields.specs.Fields.{number_at, field_at};
 
-// What stands at a place of a line: a number and the place after it, or none.
+// A number that stands at a place of a line, and the place after it.
 #[derive(Clone, Copy)]
-pub enum Number {
-    Is(u64, usize),
-    Wrong,
+pub struct Number {
+    pub value: u64,
+    pub next: usize,
 }
 
 // The digit at a place of a line; 10 where there is none.
@@ -30,8 +30,8 @@ fn digit_at(line: &[u8], i: usize) -> u64
     (b - b'0') as u64
 }
 
-// The number at a place of a line, up to a limit.
-fn number_at(line: &[u8], at: usize, limit: u64) -> Number
+// The number at a place of a line, up to a limit. The loop counts by hand: the place where the digits end is part of the answer.
+fn number_at(line: &[u8], at: usize, limit: u64) -> Option<Number>
     ensures { result ≡ number_at limit line.now at }
 {
     let first = digit_at(line, at);
@@ -40,37 +40,37 @@ fn number_at(line: &[u8], at: usize, limit: u64) -> Number
     let mut v: u64 = 0;
     while d < 10 {
         if limit < d {
-            return Number::Wrong;
+            return None;
         }
         if (limit - d) / 10 < v {
-            return Number::Wrong;
+            return None;
         }
         v = v * 10 + d;
         i += 1;
         d = digit_at(line, i);
     }
     if i == at {
-        return Number::Wrong;
+        return None;
     }
     if first == 0 {
         if 1 < i - at {
-            return Number::Wrong;
+            return None;
         }
     }
-    Number::Is(v, i)
+    Some(Number { value: v, next: i })
 }
 
 // A space at a place of a line, and a number after it.
 #[tactic(auto, unfolding(crate::specs::Fields::field_at), using(std::proofs::lemmas::Bool::Decides::nat_tests))]
-pub fn field(line: &[u8], at: usize, limit: u64) -> Number
+pub fn field(line: &[u8], at: usize, limit: u64) -> Option<Number>
     ensures { result ≡ field_at limit line.now at }
 {
     if line.len() <= at {
-        return Number::Wrong;
+        return None;
     }
     if line[at] == b' ' {
         number_at(line, at + 1, limit)
     } else {
-        Number::Wrong
+        None
     }
 }

@@ -1,29 +1,26 @@
-// What a call on a slot image answered, as one kind and up to three numbers.
+// What a call on a slot image answered.
 #![tactic(auto)]
 
 ghost use Rattle.std.specs.Prelude.{◌≡◌};
-ghost use Rattle.image_write.specs.Answers.{length_of};
+ghost use Rattle.writing.specs.Writing.{told_of};
 ghost use Rattle.image_judge.specs.Answers.{counts_of};
 ghost use Rattle.image_answers.specs.Listed.{listed_length, listed_counts};
 
-use answers::{Answer, COUNTS, NUMBER};
+use answers::Answer;
 use image_judge::Counts;
-use image_write::Length;
+use refusal::Refusal;
 
-pub fn length(image: Length) -> Answer
-    ensures { result ≡ listed_length (length_of image) }
+pub fn length(image: Result<usize, Refusal>) -> Answer
+    ensures { result ≡ listed_length (told_of image) }
 {
-    match image {
-        Length::Bytes(n) => Answer::of(NUMBER, n as u64),
-        Length::Refused(why) => Answer::refused(why),
-    }
+    image.map_or_else(Answer::refused, |n| Answer::Number(n as u64))
 }
 
-pub fn counts(judged: Counts) -> Answer
+pub fn counts(judged: Result<Counts, Refusal>) -> Answer
     ensures { result ≡ listed_counts (counts_of judged) }
 {
     match judged {
-        Counts::Slots { count, live } => Answer::new(COUNTS, count as u64, live as u64, 0),
-        Counts::Refused(why) => Answer::refused(why),
+        Ok(Counts { count, live }) => Answer::Counts(u64::from(count), u64::from(live)),
+        Err(why) => Answer::refused(why),
     }
 }

@@ -3,12 +3,10 @@
 #![tactic(auto)]
 
 use answers::Answer;
-use dense::Started;
+use dense::View;
 use image_read::rebuild;
 use image_write::write_image;
 use lines::first;
-use table::Header;
-use writing::Written;
 
 // The file descriptors of standard input and of standard output.
 const STDIN_FILENO: i32 = 0;
@@ -16,36 +14,29 @@ const STDIN_FILENO: i32 = 0;
 const STDOUT_FILENO: i32 = 1;
 
 // The most bytes that an image of standard input has.
-const LONGEST: u8 = 32;
+const LONGEST: usize = 32;
 
-// A line so far: how many bytes its image has, the first half of the next one, and whether it is a remark.
+// A line so far: a remark; or how many bytes its image has, and the first half of the next one.
 #[derive(Clone, Copy)]
-struct Line {
-    len: u8,
-    half: u8,
-    remark: bool,
+enum Line {
+    Remark,
+    Image { len: usize, half: Option<u8> },
 }
 
-// No first half.
-const NONE: u8 = 16;
+// Before the first byte of a line.
+const BLANK: Line = Line::Image { len: 0, half: None };
 
 fn main() {
     let mut text = io::large_buffer();
     let n = io::read_full(STDIN_FILENO, &mut text);
-    let mut image = [0u8; 32];
+    let mut image = [0u8; LONGEST];
     each_line(&text[..n], &mut image);
 }
 
 fn each_line(text: &[u8], image: &mut [u8]) {
-    let mut line = Line {
-        len: 0,
-        half: NONE,
-        remark: false,
-    };
-    let mut i = 0;
-    while i < text.len() {
-        line = take(line, text[i], image);
-        i += 1;
+    let mut line = BLANK;
+    for byte in text {
+        line = take(line, *byte, image);
     }
 }
 
@@ -53,78 +44,52 @@ fn each_line(text: &[u8], image: &mut [u8]) {
 fn take(line: Line, byte: u8, image: &mut [u8]) -> Line {
     if byte == b'\n' {
         end(line, image);
-        return Line {
-            len: 0,
-            half: NONE,
-            remark: false,
-        };
+        return BLANK;
     }
-    if line.remark {
-        say(&[byte]);
-        return line;
+    match line {
+        Line::Remark => {
+            say(&[byte]);
+            line
+        }
+        Line::Image { .. } if byte == b'#' => Line::Remark,
+        Line::Image { len, half } => match digit(byte) {
+            Some(value) => take_digit(len, half, value, image),
+            None => line,
+        },
     }
-    if byte == b'#' {
-        return Line {
-            len: 0,
-            half: NONE,
-            remark: true,
-        };
-    }
-    take_digit(line, digit(byte), image)
 }
 
 fn end(line: Line, image: &[u8]) {
-    if line.remark {
-        say(b"\n");
-        return;
+    match line {
+        Line::Remark => say(b"\n"),
+        Line::Image { len, half: _ } => rebuilt(first(image, len)),
     }
-    let n = io::count(line.len as isize, image);
-    rebuilt(&image[..n]);
 }
 
-// The value of a hexadecimal digit; 16 for any other byte.
-fn digit(byte: u8) -> u8 {
-    if byte < b'0' {
-        return NONE;
-    }
-    if byte <= b'9' {
-        return byte - b'0';
-    }
-    if byte < b'a' {
-        return NONE;
-    }
-    if byte <= b'f' {
-        return byte - b'a' + 10;
-    }
-    NONE
-}
-
-fn store(image: &mut [u8], at: usize, byte: u8) {
-    if at < image.len() {
-        image[at] = byte;
+// The value of a hexadecimal digit.
+fn digit(byte: u8) -> Option<u8> {
+    match byte {
+        b'0'..=b'9' => Some(byte - b'0'),
+        b'a'..=b'f' => Some(byte - b'a' + 10),
+        _ => None,
     }
 }
 
 // A digit begins a byte or ends one.
-fn take_digit(line: Line, value: u8, image: &mut [u8]) -> Line {
-    if NONE <= value {
-        return line;
-    }
-    if line.half == NONE {
-        return Line {
-            len: line.len,
-            half: value,
-            remark: false,
+fn take_digit(len: usize, half: Option<u8>, value: u8, image: &mut [u8]) -> Line {
+    let Some(upper) = half else {
+        return Line::Image {
+            len,
+            half: Some(value),
         };
+    };
+    if image.len() <= len {
+        return Line::Image { len, half };
     }
-    if LONGEST <= line.len {
-        return line;
-    }
-    store(image, line.len as usize, (line.half << 4) | value);
-    Line {
-        len: line.len + 1,
-        half: NONE,
-        remark: false,
+    image[len] = (upper << 4) | value;
+    Line::Image {
+        len: len + 1,
+        half: None,
     }
 }
 
@@ -135,19 +100,28 @@ fn rebuilt(bytes: &[u8]) {
     let mut keys = [92u64; 3];
     let mut values = [93u64; 3];
     match rebuild(&mut versions, &mut links, &mut keys, &mut values, bytes) {
-        Started::With(h) => {
-            show(h, &versions, &links, &keys, &values);
-            written(h, &versions, &links, &keys, &values);
+        Ok(h) => {
+            let (versions, links) = (&versions, &links);
+            let (keys, values) = (&keys, &values);
+            let view = View {
+                h,
+                versions,
+                links,
+                keys,
+                values,
+            };
+            show(view);
+            written(view);
         }
-        Started::Refused(why) => tell(Answer::refused(why)),
+        Err(why) => tell(Answer::refused(why)),
     }
 }
 
-fn written(h: Header, versions: &[u32], links: &[u32], keys: &[u64], values: &[u64]) {
+fn written(view: View) {
     let mut out = [0x5au8; 12];
-    match write_image(h, versions, links, keys, values, &mut out) {
-        Written::End(_) => show_image(&out),
-        Written::Refused(why) => tell(Answer::refused(why)),
+    match write_image(view, &mut out) {
+        Ok(_) => show_image(&out),
+        Err(why) => tell(Answer::refused(why)),
     }
 }
 
@@ -163,14 +137,14 @@ fn tell(answer: Answer) {
     say(first(&text, end));
 }
 
-fn show(h: Header, versions: &[u32], links: &[u32], keys: &[u64], values: &[u64]) {
+fn show(view: View) {
     let mut text = [0u8; 400];
-    let end = state_lines::state(h, versions, links, keys, values, 0, &mut text);
+    let end = state_lines::state(view, 0, &mut text);
     say(first(&text, end));
 }
 
 fn show_image(image: &[u8]) {
     let mut text = [0u8; 80];
-    let end = lines::hexes(image, 0, &mut text);
+    let end = lines::row(image, 0, &mut text);
     say(first(&text, end));
 }

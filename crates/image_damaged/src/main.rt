@@ -2,7 +2,6 @@
 // to the rebuild are as they were.
 #![tactic(auto)]
 
-use dense::Started;
 use image_read::rebuild;
 use lines::first;
 use refusal::Refusal;
@@ -43,33 +42,24 @@ fn wide() {
 }
 
 fn cut(image: &[u8]) {
-    let mut n = 0;
-    while n < image.len() {
+    for n in 0..image.len() {
         judged(first(image, n));
-        n += 1;
     }
     say(b"\n");
 }
 
 fn flipped(image: &mut [u8]) {
-    let mut i = 0;
-    let end = image.len();
-    while i < end {
+    for i in 0..image.len() {
         flips(image, i);
-        i += 1;
     }
 }
 
 // The image with each bit of one byte flipped in turn, and then as it was.
 fn flips(image: &mut [u8], i: usize) {
-    let mut bit: u8 = 1;
-    let mut turns: u8 = 8;
-    while turns > 0 {
+    for bit in [1u8, 2, 4, 8, 16, 32, 64, 128] {
         flip(image, i, bit);
         judged(image);
         flip(image, i, bit);
-        bit = bit << 1;
-        turns -= 1;
     }
     say(b"\n");
 }
@@ -81,11 +71,9 @@ fn flip(image: &mut [u8], i: usize, bit: u8) {
 }
 
 fn lengthened(image: &mut [u8], last: usize) {
-    ended(image, last, 0x00);
-    ended(image, last, 0x01);
-    ended(image, last, 0x7f);
-    ended(image, last, 0x80);
-    ended(image, last, 0xff);
+    for byte in [0x00u8, 0x01, 0x7f, 0x80, 0xff] {
+        ended(image, last, byte);
+    }
     say(b"\n");
 }
 
@@ -107,47 +95,29 @@ fn judged(bytes: &[u8]) {
     let mut keys = [HELD as u64; 4];
     let mut values = [HELD as u64; 4];
     match rebuild(&mut versions, &mut links, &mut keys, &mut values, bytes) {
-        Started::With(_) => say(b" ok"),
-        Started::Refused(why) => refused(why, &versions, &links, &keys, &values),
+        Ok(_) => say(b" ok"),
+        Err(why) => refused(why, &versions, &links, &keys, &values),
     }
 }
 
 fn refused(why: Refusal, versions: &[u32], links: &[u32], keys: &[u64], values: &[u64]) {
     tell_number(why);
-    if !held(versions) {
+    if !held(versions, HELD) {
         say(b" versions touched");
     }
-    if !held(links) {
+    if !held(links, HELD) {
         say(b" links touched");
     }
-    if !held_wide(keys) {
+    if !held(keys, u64::from(HELD)) {
         say(b" keys touched");
     }
-    if !held_wide(values) {
+    if !held(values, u64::from(HELD)) {
         say(b" values touched");
     }
 }
 
-fn held(list: &[u32]) -> bool {
-    let mut i = 0;
-    while i < list.len() {
-        if list[i] != HELD {
-            return false;
-        }
-        i += 1;
-    }
-    true
-}
-
-fn held_wide(list: &[u64]) -> bool {
-    let mut i = 0;
-    while i < list.len() {
-        if list[i] != HELD as u64 {
-            return false;
-        }
-        i += 1;
-    }
-    true
+fn held<T: PartialEq + Copy>(list: &[T], x: T) -> bool {
+    list.iter().all(|y| *y == x)
 }
 
 // ---- what the program prints

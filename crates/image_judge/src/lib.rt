@@ -12,12 +12,13 @@ use summaries::{Judged, judge_records};
 
 // How many slots an image has, and how many of them are occupied.
 #[derive(Clone, Copy)]
-pub enum Counts {
-    Slots { count: u32, live: u32 },
-    Refused(Refusal),
+pub struct Counts {
+    pub count: u32,
+    pub live: u32,
 }
 
 // Whether a first record of this version and presence is wrong.
+#[tactic(auto, unfolding(image::specs::Rebuild::first_wrong))]
 fn first_wrong(version: u32, presence: u32) -> bool
     ensures { result ≡ first_wrong version presence }
 {
@@ -26,35 +27,30 @@ fn first_wrong(version: u32, presence: u32) -> bool
 
 // Judges a whole image of at most `most` slots: the faults of its records, then the first record, then the others' occupation.
 #[tactic(auto, unfolding(image::specs::Rebuild::judged_at, image::specs::Rebuild::fitting_summary), using(std::proofs::lemmas::Bool::Decides::nat_tests))]
-pub fn judge(bytes: &[u8], most: usize) -> Judged
+pub fn judge(bytes: &[u8], most: usize) -> Result<Judged, Refusal>
     ensures { judgement_of result ≡ judged_at bytes.now most }
 {
-    match judge_records(bytes, most) {
-        Judged::Refused(why) => Judged::Refused(why),
-        Judged::Fine { from, summary } => {
-            if summary.count == 0 {
-                return Judged::Refused(Refusal::First);
-            }
-            if first_wrong(summary.version, summary.presence) {
-                return Judged::Refused(Refusal::First);
-            }
-            if summary.wrong != 0 {
-                return Judged::Refused(Refusal::Occupation);
-            }
-            Judged::Fine { from, summary }
-        }
+    let judged = judge_records(bytes, most)?;
+    let summary = judged.summary;
+    if summary.count == 0 {
+        return Err(Refusal::First);
     }
+    if first_wrong(summary.version, summary.presence) {
+        return Err(Refusal::First);
+    }
+    if summary.wrong != 0 {
+        return Err(Refusal::Occupation);
+    }
+    Ok(judged)
 }
 
 // Whether a table of at most `most` slots can be rebuilt from an image, and how large it will be.
-pub fn judge_image(bytes: &[u8], most: usize) -> Counts
+pub fn judge_image(bytes: &[u8], most: usize) -> Result<Counts, Refusal>
     ensures { counts_of result ≡ judged_counts bytes.now most }
 {
-    match judge(bytes, most) {
-        Judged::Refused(why) => Counts::Refused(why),
-        Judged::Fine { from: _, summary } => Counts::Slots {
-            count: summary.count,
-            live: summary.live,
-        },
-    }
+    let summary = judge(bytes, most)?.summary;
+    Ok(Counts {
+        count: summary.count,
+        live: summary.live,
+    })
 }

@@ -2,13 +2,15 @@
 // standard input say what follows.
 #![tactic(auto)]
 
-use answers::{Answer, COUNTS, NUMBER};
-use dense::{LIMIT, Started};
+use answers::Answer;
+use dense::LIMIT;
 use image_judge::judge_image;
 use image_read::rebuild;
 use lines::{first, line_at, line_end};
 use reader::record_in;
 use records::{Record, RecordRead};
+use refusal::Refusal;
+use table::Header;
 
 // The file descriptors of standard input and of standard output.
 const STDIN_FILENO: i32 = 0;
@@ -26,14 +28,12 @@ fn main() {
     let c = remark(text, b);
     beyond();
     remark(text, c);
-    record(1);
-    record(3);
-    record(6);
-    record(10);
-    record(4);
+    for at in [1, 3, 6, 10, 4] {
+        record(at);
+    }
 }
 
-fn begun(answer: Started) {
+fn begun(answer: Result<Header, Refusal>) {
     tell(answers::started(answer));
 }
 
@@ -106,21 +106,21 @@ fn beyond() {
 fn record(at: usize) {
     let bytes = [0x03u8, 0x00, 0x00, 0x01, 0x01, 0x07, 0x01, 0x01, 0xac, 0x02];
     match record_in(&bytes, at) {
-        RecordRead::Read { slot, next } => read(slot, next),
-        RecordRead::Refused(why) => tell(Answer::refused(why)),
+        Ok(RecordRead { slot, next }) => read(slot, next),
+        Err(why) => tell(Answer::refused(why)),
     }
 }
 
 fn read(slot: Record, next: usize) {
     match slot {
-        Record::Vacant { version } => tell(Answer::new(COUNTS, version as u64, next as u64, 0)),
+        Record::Vacant { version } => tell(Answer::Counts(u64::from(version), next as u64)),
         Record::Occupied { version, value } => occupied(version, value, next),
     }
 }
 
 fn occupied(version: u32, value: u64, next: usize) {
-    tell(Answer::new(COUNTS, version as u64, next as u64, 0));
-    tell(Answer::of(NUMBER, value));
+    tell(Answer::Counts(u64::from(version), next as u64));
+    tell(Answer::Number(value));
 }
 
 // ---- what the program prints

@@ -10,12 +10,11 @@ ghost use Rattle.image.proofs.Storing.{stored};
 ghost use Rattle.image.proofs.Building.{Room, Starts};
 ghost use Rattle.image_read.specs.Answers.{outcome};
 
-use dense::{Started, lengths_fit};
+use dense::lengths_fit;
 use image_judge::judge;
 use keys::KeyData;
-use records::{Record, RecordRead};
+use records::{Record, read_record};
 use refusal::Refusal;
-use summaries::Judged;
 use table::Header;
 
 // Stores a record into the next slot. The header says what has been stored: the places filled, the slots, and the next-free number.
@@ -85,15 +84,13 @@ fn store_records(
         f: total,
     };
     let mut at = from;
-    while h.s < total {
-        match records::read_record(bytes, at) {
-            RecordRead::Refused(_) => {
-                return h;
+    for _ in 0..total {
+        match read_record(bytes, at) {
+            Ok(read) => {
+                h = store_record(h, versions, links, keys, values, read.slot);
+                at = read.next;
             }
-            RecordRead::Read { slot, next } => {
-                h = store_record(h, versions, links, keys, values, slot);
-                at = next;
-            }
+            Err(_) => return h,
         }
     }
     h
@@ -106,17 +103,13 @@ pub fn rebuild(
     keys: &mut [u64],
     values: &mut [u64],
     bytes: &[u8],
-) -> Started
+) -> Result<Header, Refusal>
     ensures { outcome (begun_of result) versions.new links.new keys.new values.new ≡ rebuild versions.old links.old keys.old values.old bytes.now }
 {
     if !lengths_fit(versions, links, keys, values) {
-        return Started::Refused(Refusal::Shape);
+        return Err(Refusal::Shape);
     }
-    match judge(bytes, keys.len() + 1) {
-        Judged::Refused(why) => Started::Refused(why),
-        Judged::Fine { from, summary } => {
-            let total = summary.count;
-            Started::With(store_records(versions, links, keys, values, bytes, from, total))
-        }
-    }
+    let judged = judge(bytes, keys.len() + 1)?;
+    let total = judged.summary.count;
+    Ok(store_records(versions, links, keys, values, bytes, judged.from, total))
 }

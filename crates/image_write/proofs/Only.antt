@@ -1,19 +1,12 @@
--- No second outcome: the reading of a length is one-to-one; what writes an image answers as every writer does. Assumes nothing.
+-- No second outcome: a length that an answer tells is told by one answer; what writes an image answers as every writer does. Assumes nothing.
 use Prim.Native.Nat.{ℕ}
-use mathlib.Core.Path.{◌≡◌, sym, ap}
+use mathlib.Core.Path.{◌≡◌}
+use Rattle.std.specs.Prelude.{Result}
 use Rattle.lists.proofs.Only.{only_read}
-use Rattle.refusal.proofs.Numbers.{number_one_to_one}
+use Rattle.refusal.specs.declared.Refusal.{Refusal}
 use Rattle.writing.specs.Told.{Told}
-use Rattle.writing.proofs.Told.{never, told, refused-same}
-use Rattle.image_write.specs.Answers.{length_of}
-use Rattle.image_write.specs.declared.Length.{Length}
-use Rattle.image_write.specs.declared.Length.TheVariants.{Bytes, Refused}
+use Rattle.writing.specs.Writing.{told_of}
+use Rattle.writing.proofs.Outcomes.{told_one_to_one}
 
-pub length_one_to_one : (r q : Length) → length_of r ≡ length_of q → r ≡ q
-length_one_to_one (Bytes m) (Bytes n) e = ap Bytes (told e)
-length_one_to_one (Bytes m) (Refused k) e = never (sym e)
-length_one_to_one (Refused k) (Bytes n) e = never e
-length_one_to_one (Refused k) (Refused j) e = ap Refused (number_one_to_one k j (refused-same e))
-
-pub only_length : {x : Told ℕ} {r q : Length} → length_of r ≡ x → length_of q ≡ x → r ≡ q
-only_length = only_read length_of length_one_to_one
+pub only_length : {x : Told ℕ} {r q : Result ℕ Refusal} → told_of r ≡ x → told_of q ≡ x → r ≡ q
+only_length = only_read told_of told_one_to_one

@@ -1,43 +1,46 @@
 // The slot image written: a sound table's slots as bytes in a lent buffer. The Rust's `dense.rs`, serialize.
 #![tactic(auto)]
 
-ghost use Rattle.std.specs.Prelude.{◌≡◌, true, ◌<◌, ◌≤◌, length};
-ghost use Rattle.lists.specs.Put.{put};
-ghost use Rattle.writing.specs.Writing.{told_of, outcome};
+ghost use Rattle.std.specs.Prelude.{◌≡◌, ◌<◌, ◌≤◌, length, MatchResult};
+ghost use Rattle.refusal.specs.Refusals.{number_of};
+ghost use Rattle.writing.specs.Told.{refused};
+ghost use Rattle.writing.specs.Writing.{told_of, outcome, written};
 ghost use Rattle.records.specs.Records.{Fit};
-ghost use Rattle.table.specs.Sound.{is_sound};
-ghost use Rattle.dense.specs.Lent.{table};
+ghost use Rattle.dense.specs.Lent.{seen};
 ghost use Rattle.image.specs.Image.{slot_of, image_bytes, image_len, write_image};
-ghost use Rattle.image.proofs.Writing.{end_or};
-ghost use Rattle.image_write.specs.Answers.{length_of};
 
-use dense::has_shape;
+mod judged;
+
+use dense::{View, with_shape};
 use dense_sound::is_sound;
+use judged::Sound;
 use keys::is_odd;
-use records::Record;
+use numbers_write::{encoded_len, write_number};
+use records::{Record, record_len, write_record};
 use refusal::Refusal;
-use table::Header;
-use writing::Written;
 
-// How many bytes an image has.
-#[derive(Clone, Copy)]
-pub enum Length {
-    Bytes(usize),
-    Refused(Refusal),
+// The same table, known to be sound; else the refusal of its image.
+fn with_soundness(view: View<'_>) -> Result<Sound<'_>, Refusal>
+    ensures { MatchResult result (λ table. table.view ≡ view.entry) (λ why. image_len (seen view.entry) ≡ refused (number_of why)) }
+{
+    let table = with_shape(view)?;
+    if !is_sound(table.view) {
+        return Err(Refusal::Damaged);
+    }
+    Ok(Sound { view: table.view })
 }
 
 // The record of slot i: an odd slot's value stands at the place that it links to.
-fn slot_record(
-    h: Header,
-    versions: &[u32],
-    links: &[u32],
-    keys: &[u64],
-    values: &[u64],
-    i: u32,
-) -> Record
-    requires { (is_sound (table versions.now links.now keys.now values.now h) ≡ true) × (i < h.s) }
-    ensures { (result ≡ slot_of (table versions.now links.now keys.now values.now h) i) × Fit result }
+fn slot_record(table: Sound, i: u32) -> Record
+    requires { i < table.view.h.s }
+    ensures { (result ≡ slot_of (seen table.entry.view) i) × Fit result }
 {
+    let View {
+        versions,
+        links,
+        values,
+        ..
+    } = table.view;
     let version = versions[i as usize];
     if is_odd(version) {
         let p = links[i as usize] as usize;
@@ -48,85 +51,45 @@ fn slot_record(
 }
 
 // How many bytes the image of a sound table has.
-fn bytes_in(h: Header, versions: &[u32], links: &[u32], keys: &[u64], values: &[u64]) -> usize
-    requires { is_sound (table versions.now links.now keys.now values.now h) ≡ true }
-    ensures { result ≡ length (image_bytes (table versions.now links.now keys.now values.now h)) }
+fn bytes_in(table: Sound) -> usize
+    ensures { result ≡ length (image_bytes (seen table.entry.view)) }
 {
-    let mut total = numbers_write::encoded_len(h.s as u64);
-    let mut i: u32 = 0;
-    while i < h.s {
-        let slot = slot_record(h, versions, links, keys, values, i);
-        total += records::record_len(slot);
-        i += 1;
+    let h = table.view.h;
+    let mut total = encoded_len(h.s as u64);
+    for i in 0..h.s {
+        total += record_len(slot_record(table, i));
     }
     total
 }
 
 // How many bytes the image of a table has, so that a caller can lend as many.
-pub fn image_len(h: Header, versions: &[u32], links: &[u32], keys: &[u64], values: &[u64]) -> Length
-    ensures { length_of result ≡ image_len (table versions.now links.now keys.now values.now h) }
+pub fn image_len(view: View) -> Result<usize, Refusal>
+    ensures { told_of result ≡ image_len (seen view.entry) }
 {
-    if !has_shape(h, versions, links, keys, values) {
-        return Length::Refused(Refusal::Shape);
-    }
-    if !is_sound(h, versions, links, keys, values) {
-        return Length::Refused(Refusal::Damaged);
-    }
-    Length::Bytes(bytes_in(h, versions, links, keys, values))
+    let table = with_soundness(view)?;
+    Ok(bytes_in(table))
 }
 
-// Where writing ended. Writing that was refused has moved nothing.
-fn place_after(written: Written, at: usize) -> usize
-    ensures { result ≡ end_or at (told_of written) }
+// Writes the image of a sound table into a buffer that has the room, and answers where it ends. So no writer refuses here.
+fn put_image(table: Sound, out: &mut [u8]) -> Result<usize, Refusal>
+    requires { length (image_bytes (seen table.view)) ≤ length out.old }
+    ensures { outcome result out.new ≡ written 0 (image_bytes (seen table.entry.view)) out.old }
 {
-    match written {
-        Written::End(next) => next,
-        Written::Refused(_) => at,
+    let h = table.view.h;
+    let mut at = write_number(h.s as u64, 0, out)?;
+    for i in 0..h.s {
+        at = write_record(slot_record(table, i), at, out)?;
     }
-}
-
-// Puts the image of a sound table into a buffer that has the room.
-fn put_image(
-    h: Header,
-    versions: &[u32],
-    links: &[u32],
-    keys: &[u64],
-    values: &[u64],
-    out: &mut [u8],
-)
-    requires { (is_sound (table versions.now links.now keys.now values.now h) ≡ true) × (length (image_bytes (table versions.now links.now keys.now values.now h)) ≤ length out.old) }
-    ensures { out.new ≡ put out.old 0 (image_bytes (table versions.now links.now keys.now values.now h)) }
-{
-    let count = numbers_write::write_number(h.s as u64, 0, out);
-    let mut at = place_after(count, 0);
-    let mut i: u32 = 0;
-    while i < h.s {
-        let slot = slot_record(h, versions, links, keys, values, i);
-        let written = records::write_record(slot, at, out);
-        at = place_after(written, at);
-        i += 1;
-    }
+    Ok(at)
 }
 
 // Writes the image of a table into a buffer, from its front on, and answers how many bytes it has. Its length is judged before the first byte is stored.
-pub fn write_image(
-    h: Header,
-    versions: &[u32],
-    links: &[u32],
-    keys: &[u64],
-    values: &[u64],
-    out: &mut [u8],
-) -> Written
-    ensures { outcome result out.new ≡ write_image (table versions.now links.now keys.now values.now h) out.old }
+pub fn write_image(view: View, out: &mut [u8]) -> Result<usize, Refusal>
+    ensures { outcome result out.new ≡ write_image (seen view.entry) out.old }
 {
-    match image_len(h, versions, links, keys, values) {
-        Length::Refused(why) => Written::Refused(why),
-        Length::Bytes(count) => {
-            if out.len() < count {
-                return Written::Refused(Refusal::Short);
-            }
-            put_image(h, versions, links, keys, values, out);
-            Written::End(count)
-        }
+    let table = with_soundness(view)?;
+    if out.len() < bytes_in(table) {
+        return Err(Refusal::Short);
     }
+    put_image(table, out)
 }

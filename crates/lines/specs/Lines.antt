@@ -3,7 +3,7 @@ use Rattle.std.specs.Prelude.{ℕ, zero, suc, ◌-◌, cond, List, [], ◌∷◌
 use Rattle.pieces.specs.Pieces.{space, newline}
 
 -- a list as a line, each number by its text: a space before each, and a newline after the last
-abbrev pub row : (ℕ → List ℕ) → List ℕ → List (List ℕ)
+abbrev pub row : {X : Type 0} → (X → List ℕ) → List X → List (List ℕ)
 row text [] = newline ∷ []
 row text (x ∷ xs) = space ∷ text x ∷ row text xs
 

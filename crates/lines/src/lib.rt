@@ -6,7 +6,7 @@ ghost use Rattle.lines.specs.Lines.{line_end, line_at};
 
 mod rows;
 
-pub use rows::{hexes, named_numbers, named_words, numbers, words};
+pub use rows::{Piece, named_row, row};
 
 // The first bytes of a text, up to a place; all of it where it ends before.
 pub fn first(text: &[u8], end: usize) -> &[u8]
@@ -22,12 +22,10 @@ pub fn first(text: &[u8], end: usize) -> &[u8]
 pub fn line_end(text: &[u8], at: usize) -> usize
     ensures { result ≡ line_end text.now at }
 {
-    let mut i = at;
-    while i < text.len() {
+    for i in at..text.len() {
         if text[i] == b'\n' {
             return i + 1;
         }
-        i += 1;
     }
     text.len()
 }

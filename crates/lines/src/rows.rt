@@ -1,80 +1,66 @@
 // Arrays as lines: a space before each number, and a newline after the last.
-ghost use Rattle.std.specs.Prelude.{◌≡◌, [], ◌∷◌};
+ghost use Rattle.std.specs.Prelude.{◌≡◌, ℕ, List, [], ◌∷◌};
 ghost use Rattle.text.specs.Text.{decimal};
-ghost use Rattle.pieces.specs.Pieces.{page, wrote_all, space, hex_text};
+ghost use Rattle.pieces.specs.Pieces.{page, wrote, wrote_all, space, hex_text};
 ghost use Rattle.lines.specs.Lines.{row};
 
-use pieces::{bytes, hex, labelled};
+use pieces::{bytes, hex, number};
 
-fn spaced(value: u64, at: usize, out: &mut [u8]) -> usize
-    ensures { page result out.new ≡ wrote_all (page at out.old) (space ∷ decimal value ∷ []) }
-{
-    labelled(b" ", value, at, out)
+// What an array as a line is made of: a number that is written as its text.
+pub trait Piece {
+    ghost text: { Self → List ℕ };
+
+    fn put(&self, at: usize, out: &mut [u8]) -> usize
+        ensures { page result out.new ≡ wrote (page at out.old) (text self.now) };
 }
 
-fn spaced_word(value: u32, at: usize, out: &mut [u8]) -> usize
-    ensures { page result out.new ≡ wrote_all (page at out.old) (space ∷ decimal value ∷ []) }
-{
-    spaced(value as u64, at, out)
+impl Piece for u64 {
+    ghost text = { decimal };
+
+    fn put(&self, at: usize, out: &mut [u8]) -> usize {
+        number(*self, at, out)
+    }
 }
 
-fn spaced_hex(value: u8, at: usize, out: &mut [u8]) -> usize
-    ensures { page result out.new ≡ wrote_all (page at out.old) (space ∷ hex_text value ∷ []) }
+impl Piece for u32 {
+    ghost text = { decimal };
+
+    fn put(&self, at: usize, out: &mut [u8]) -> usize {
+        number(*self as u64, at, out)
+    }
+}
+
+// A byte is two hexadecimal digits.
+impl Piece for u8 {
+    ghost text = { hex_text };
+
+    fn put(&self, at: usize, out: &mut [u8]) -> usize {
+        hex(*self, at, out)
+    }
+}
+
+fn spaced<T: Piece>(piece: &T, at: usize, out: &mut [u8]) -> usize
+    ensures { page result out.new ≡ wrote_all (page at out.old) (space ∷ T.text piece.now ∷ []) }
 {
     let n = bytes(b" ", at, out);
-    hex(value, n, out)
+    piece.put(n, out)
 }
 
-// 32-bit numbers.
-pub fn words(list: &[u32], at: usize, out: &mut [u8]) -> usize
-    ensures { page result out.new ≡ wrote_all (page at out.old) (row decimal list.now) }
+// An array as a line.
+pub fn row<T: Piece>(list: &[T], at: usize, out: &mut [u8]) -> usize
+    ensures { page result out.new ≡ wrote_all (page at out.old) (row T.text list.now) }
 {
     let mut place = at;
-    let mut i = 0;
-    while i < list.len() {
-        place = spaced_word(list[i], place, out);
-        i += 1;
-    }
-    bytes(b"\n", place, out)
-}
-
-// 64-bit numbers.
-pub fn numbers(list: &[u64], at: usize, out: &mut [u8]) -> usize
-    ensures { page result out.new ≡ wrote_all (page at out.old) (row decimal list.now) }
-{
-    let mut place = at;
-    let mut i = 0;
-    while i < list.len() {
-        place = spaced(list[i], place, out);
-        i += 1;
-    }
-    bytes(b"\n", place, out)
-}
-
-// Bytes, two hexadecimal digits each.
-pub fn hexes(list: &[u8], at: usize, out: &mut [u8]) -> usize
-    ensures { page result out.new ≡ wrote_all (page at out.old) (row hex_text list.now) }
-{
-    let mut place = at;
-    let mut i = 0;
-    while i < list.len() {
-        place = spaced_hex(list[i], place, out);
-        i += 1;
+    for piece in list {
+        place = spaced(piece, place, out);
     }
     bytes(b"\n", place, out)
 }
 
 // An array with its name before it.
-pub fn named_words(name: &[u8], list: &[u32], at: usize, out: &mut [u8]) -> usize
-    ensures { page result out.new ≡ wrote_all (page at out.old) (name.now ∷ row decimal list.now) }
+pub fn named_row<T: Piece>(name: &[u8], list: &[T], at: usize, out: &mut [u8]) -> usize
+    ensures { page result out.new ≡ wrote_all (page at out.old) (name.now ∷ row T.text list.now) }
 {
     let n = bytes(name, at, out);
-    words(list, n, out)
-}
-
-pub fn named_numbers(name: &[u8], list: &[u64], at: usize, out: &mut [u8]) -> usize
-    ensures { page result out.new ≡ wrote_all (page at out.old) (name.now ∷ row decimal list.now) }
-{
-    let n = bytes(name, at, out);
-    numbers(list, n, out)
+    row(list, n, out)
 }

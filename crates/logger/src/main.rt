@@ -4,15 +4,15 @@
 #![tactic(auto)]
 
 use answers::Answer;
-use dense::{Found, Issued, Started, fresh};
+use dense::{View, fresh};
 use dense_enter::{insert, put};
 use dense_leave::remove;
 use dense_look::lookup;
 use image_read::rebuild;
 use image_write::write_image;
 use lines::first;
+use refusal::Refusal;
 use table::Header;
-use writing::Written;
 
 // The file descriptor of standard output.
 const STDOUT_FILENO: i32 = 1;
@@ -26,8 +26,7 @@ fn main() {
 
     // contactors 3 and 5 run acid
     let third = insert(h, &mut versions, &mut links, &mut keys, &mut values, 3621);
-    let third_answer = third.answer;
-    let third_key = opened(third_answer);
+    let third_key = opened(third.answer);
     let fifth = insert(
         third.header,
         &mut versions,
@@ -36,16 +35,15 @@ fn main() {
         &mut values,
         5640,
     );
-    let fifth_answer = fifth.answer;
-    let fifth_key = opened(fifth_answer);
+    let fifth_key = opened(fifth.answer);
 
     // the reading of 3 falls further
     let g = fifth.header;
-    found(lookup(g, &versions, &links, &keys, &values, third_key));
+    read(g, &versions, &links, &keys, &values, third_key);
     found(put(g, &versions, &links, &keys, &mut values, third_key, 3598));
 
     // 5 recovers: its spell is read and closed, and its key opens nothing any more
-    found(lookup(g, &versions, &links, &keys, &values, fifth_key));
+    read(g, &versions, &links, &keys, &values, fifth_key);
     let closed = remove(
         g,
         &mut versions,
@@ -54,37 +52,50 @@ fn main() {
         &mut values,
         fifth_key,
     );
-    let reading = closed.answer;
-    found(reading);
-    found(lookup(closed.header, &versions, &links, &keys, &values, fifth_key));
+    found(closed.answer);
+    read(closed.header, &versions, &links, &keys, &values, fifth_key);
     evening(closed.header, &versions, &links, &keys, &values, third_key);
 }
 
+// Tells the reading of a spell.
+fn read(h: Header, versions: &[u32], links: &[u32], keys: &[u64], values: &[u64], spell: u64) {
+    found(lookup(
+        View {
+            h,
+            versions,
+            links,
+            keys,
+            values,
+        },
+        spell,
+    ));
+}
+
 // The header of a table that has begun. With a refusal there is none, and three zeros stand for it: every call refuses them.
-fn begun(answer: Started) -> Header {
+fn begun(answer: Result<Header, Refusal>) -> Header {
     match answer {
-        Started::With(h) => h,
-        Started::Refused(why) => {
+        Ok(h) => h,
+        Err(why) => {
             tell(Answer::refused(why));
             Header { n: 0, s: 0, f: 0 }
         }
     }
 }
 
-fn found(answer: Found) {
+fn found(answer: Result<u64, Refusal>) {
     say(b"reading: ");
     tell(answers::value(answer));
 }
 
 // The number of the key of a spell just opened. With a refusal there is none, and the null key stands for it: it is never live.
-fn opened(answer: Issued) -> u64 {
+fn opened(answer: Result<u64, Refusal>) -> u64 {
     match answer {
-        Issued::Key(k) => {
+        Ok(k) => {
             say(b"opened ");
             tell(answers::issued(answer));
             k
         }
-        Issued::Refused(why) => {
+        Err(why) => {
             tell(Answer::refused(why));
             0x1_ffff_ffff
         }
@@ -94,9 +105,18 @@ fn opened(answer: Issued) -> u64 {
 // Writes the day's image and hands it to the next day.
 fn evening(h: Header, versions: &[u32], links: &[u32], keys: &[u64], values: &[u64], spell: u64) {
     let mut out = [0u8; 64];
-    match write_image(h, versions, links, keys, values, &mut out) {
-        Written::End(end) => next_day(first(&out, end), spell),
-        Written::Refused(why) => tell(Answer::refused(why)),
+    match write_image(
+        View {
+            h,
+            versions,
+            links,
+            keys,
+            values,
+        },
+        &mut out,
+    ) {
+        Ok(end) => next_day(first(&out, end), spell),
+        Err(why) => tell(Answer::refused(why)),
     }
 }
 
@@ -108,10 +128,8 @@ fn next_day(image: &[u8], spell: u64) {
     let mut keys = [0u64; 8];
     let mut values = [0u64; 8];
     match rebuild(&mut versions, &mut links, &mut keys, &mut values, image) {
-        Started::With(h) => {
-            found(lookup(h, &versions, &links, &keys, &values, spell));
-        }
-        Started::Refused(why) => tell(Answer::refused(why)),
+        Ok(h) => read(h, &versions, &links, &keys, &values, spell),
+        Err(why) => tell(Answer::refused(why)),
     }
 }
 
@@ -130,6 +148,6 @@ fn tell(answer: Answer) {
 fn show(image: &[u8]) {
     say(b"the day's image:");
     let mut text = [0u8; 200];
-    let end = lines::hexes(image, 0, &mut text);
+    let end = lines::row(image, 0, &mut text);
     say(first(&text, end));
 }

@@ -5,12 +5,11 @@ use Rattle.table.specs.Table.{Table}
 use Rattle.table.specs.Calls.{Out, Begun, begins, cannot}
 use Rattle.dense.specs.Lent.{table}
 use Rattle.answers.specs.declared.Answer.{Answer}
-use Rattle.answers.specs.Kinds.{headed, refusal}
-use Rattle.answers.specs.Listed.{listed}
-use Rattle.made.specs.declared.Made.{Made}
+use Rattle.answers.specs.declared.Made.{Made}
+use Rattle.answers.specs.Listed.{listed, listed_header}
 
 -- the answer, and the table with the header that is handed back
-abbrev pub outcome : Made → List ℕ → List ℕ → List ℕ → List ℕ → Answer × Table
+abbrev pub outcome : Made Header → List ℕ → List ℕ → List ℕ → List ℕ → Answer × Table
 outcome r vs ls ks xs = (r.answer, table vs ls ks xs r.header)
 
 -- an outcome of the rules; d is what "done" answers
@@ -18,6 +17,6 @@ abbrev pub tells : Answer → Out → Answer × Table
 tells d o = (listed d o.0, o.1)
 
 -- a table that begins has its first header; of one that cannot begin the header stays
-abbrev pub begun : Header → Begun → Made
-begun h (begins g) = record { header = g; answer = headed g }
-begun h (cannot r) = record { header = h; answer = refusal r }
+abbrev pub begun : Header → Begun → Made Header
+begun h (begins g) = record { header = g; answer = listed_header (begins g) }
+begun h (cannot r) = record { header = h; answer = listed_header (cannot r) }

@@ -5,32 +5,20 @@ ghost use Rattle.std.specs.Prelude.{◌≡◌};
 ghost use Rattle.table.specs.Calls.{insert, put, remove, detach, reattach};
 ghost use Rattle.dense.specs.Lent.{table};
 ghost use Rattle.dense.specs.Answers.{begun_of};
-ghost use Rattle.answers.specs.Kinds.{done};
+ghost use Rattle.answers.specs.declared.Answer.TheVariants.{Done};
 ghost use Rattle.made.specs.Outcomes.{outcome, tells, begun};
 
-use answers::Answer;
-use dense::Started;
+use answers::Made;
+use refusal::{Changed, Refusal};
 use table::Header;
 
-#[derive(Clone, Copy)]
-pub struct Made {
-    pub header: Header,
-    pub answer: Answer,
-}
-
 // A table begun or rebuilt; the header stays where that is refused.
-pub fn begun(h: Header, start: Started) -> Made
+pub fn begun(h: Header, start: Result<Header, Refusal>) -> Made<Header>
     ensures { result ≡ begun h (begun_of start) }
 {
-    match start {
-        Started::With(g) => Made {
-            header: g,
-            answer: Answer::header(g),
-        },
-        Started::Refused(why) => Made {
-            header: h,
-            answer: Answer::refused(why),
-        },
+    Made {
+        header: start.unwrap_or(h),
+        answer: answers::started(start),
     }
 }
 
@@ -41,12 +29,10 @@ pub fn insert(
     keys: &mut [u64],
     values: &mut [u64],
     x: u64,
-) -> Made
-    ensures { outcome result versions.new links.new keys.new values.new ≡ tells done (insert (table versions.old links.old keys.old values.old h) x) }
+) -> Made<Header>
+    ensures { outcome result versions.new links.new keys.new values.new ≡ tells Done (insert (table versions.old links.old keys.old values.old h) x) }
 {
-    let inserted = dense_enter::insert(h, versions, links, keys, values, x);
-    let header = inserted.header;
-    let answer = inserted.answer;
+    let Changed { header, answer } = dense_enter::insert(h, versions, links, keys, values, x);
     Made {
         header,
         answer: answers::issued(answer),
@@ -61,8 +47,8 @@ pub fn put(
     values: &mut [u64],
     k: u64,
     x: u64,
-) -> Made
-    ensures { outcome result versions.now links.now keys.now values.new ≡ tells done (put (table versions.now links.now keys.now values.old h) k x) }
+) -> Made<Header>
+    ensures { outcome result versions.now links.now keys.now values.new ≡ tells Done (put (table versions.now links.now keys.now values.old h) k x) }
 {
     let old = dense_enter::put(h, versions, links, keys, values, k, x);
     Made {
@@ -79,12 +65,12 @@ pub fn reattach(
     values: &mut [u64],
     k: u64,
     x: u64,
-) -> Made
-    ensures { outcome result versions.new links.new keys.new values.new ≡ tells done (reattach (table versions.old links.old keys.old values.old h) k x) }
+) -> Made<Header>
+    ensures { outcome result versions.new links.new keys.new values.new ≡ tells Done (reattach (table versions.old links.old keys.old values.old h) k x) }
 {
-    let reattached = dense_reattach::reattach(h, versions, links, keys, values, k, x);
-    let header = reattached.header;
-    let answer = reattached.answer;
+    let Changed { header, answer } = dense_reattach::reattach(
+        h, versions, links, keys, values, k, x,
+    );
     Made {
         header,
         answer: answers::verdict(answer),
@@ -98,12 +84,10 @@ pub fn remove(
     keys: &mut [u64],
     values: &mut [u64],
     k: u64,
-) -> Made
-    ensures { outcome result versions.new links.new keys.new values.new ≡ tells done (remove (table versions.old links.old keys.old values.old h) k) }
+) -> Made<Header>
+    ensures { outcome result versions.new links.new keys.new values.new ≡ tells Done (remove (table versions.old links.old keys.old values.old h) k) }
 {
-    let removed = dense_leave::remove(h, versions, links, keys, values, k);
-    let header = removed.header;
-    let answer = removed.answer;
+    let Changed { header, answer } = dense_leave::remove(h, versions, links, keys, values, k);
     Made {
         header,
         answer: answers::value(answer),
@@ -117,12 +101,10 @@ pub fn detach(
     keys: &mut [u64],
     values: &mut [u64],
     k: u64,
-) -> Made
-    ensures { outcome result versions.new links.new keys.new values.new ≡ tells done (detach (table versions.old links.old keys.old values.old h) k) }
+) -> Made<Header>
+    ensures { outcome result versions.new links.new keys.new values.new ≡ tells Done (detach (table versions.old links.old keys.old values.old h) k) }
 {
-    let detached = dense_leave::detach(h, versions, links, keys, values, k);
-    let header = detached.header;
-    let answer = detached.answer;
+    let Changed { header, answer } = dense_leave::detach(h, versions, links, keys, values, k);
     Made {
         header,
         answer: answers::value(answer),

@@ -1,7 +1,7 @@
 -- What a call given as a value is in the rules, and what "done" answers to it. Assumes nothing.
 use Rattle.table.specs.Steps as steps
 use Rattle.answers.specs.declared.Answer.{Answer}
-use Rattle.answers.specs.Kinds.{done, ended}
+use Rattle.answers.specs.declared.Answer.TheVariants.{Done, Ended}
 use Rattle.made_call.specs.declared.Call.{Call}
 use Rattle.made_call.specs.declared.Call.TheVariants.{Insert, Put, Remove, Detach, Reattach, Retain, Drain, Clear}
 
@@ -17,11 +17,11 @@ call_of Clear = steps.c_clear
 
 -- a drain step that finds nothing left has ended
 abbrev pub done_of : Call → Answer
-done_of (Insert x) = done
-done_of (Put k x) = done
-done_of (Remove k) = done
-done_of (Detach k) = done
-done_of (Reattach k x) = done
-done_of (Retain rule) = done
-done_of Drain = ended
-done_of Clear = done
+done_of (Insert x) = Done
+done_of (Put k x) = Done
+done_of (Remove k) = Done
+done_of (Detach k) = Done
+done_of (Reattach k x) = Done
+done_of (Retain rule) = Done
+done_of Drain = Ended
+done_of Clear = Done

@@ -1,5 +1,5 @@
 // The calls that may change a dense table, as values: one function makes whichever it is given, and hands back the header and its answer.
-#![tactic(auto)]
+#![tactic(auto, unfolding(table::specs::Steps::step))]
 
 ghost use Rattle.std.specs.Prelude.{◌≡◌};
 ghost use Rattle.table.specs.Steps.{step};
@@ -7,7 +7,7 @@ ghost use Rattle.dense.specs.Lent.{table};
 ghost use Rattle.made.specs.Outcomes.{outcome, tells};
 ghost use Rattle.made_call.specs.Called.{call_of, done_of};
 
-use made::Made;
+use answers::Made;
 use rules::Rule;
 use table::Header;
 
@@ -30,7 +30,7 @@ pub fn make(
     keys: &mut [u64],
     values: &mut [u64],
     call: Call,
-) -> Made
+) -> Made<Header>
     ensures { outcome result versions.new links.new keys.new values.new ≡ tells (done_of call) (step (table versions.old links.old keys.old values.old h) (call_of call)) }
 {
     match call {

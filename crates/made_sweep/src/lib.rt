@@ -6,12 +6,12 @@ ghost use Rattle.table.specs.Calls.{drain};
 ghost use Rattle.table.specs.Sweeps.{retain, clear};
 ghost use Rattle.dense.specs.Lent.{table};
 ghost use Rattle.dense_disjoint.specs.Places.{disjointly};
-ghost use Rattle.answers.specs.Kinds.{done, ended, places};
+ghost use Rattle.answers.specs.declared.Answer.TheVariants.{Done, Ended, Places};
 ghost use Rattle.made.specs.Outcomes.{outcome, tells};
 ghost use Rattle.made_sweep.specs.Placings.{leaves, tells_places};
 
-use answers::Answer;
-use made::Made;
+use answers::{Answer, Made};
+use refusal::Changed;
 use rules::Rule;
 use table::Header;
 
@@ -21,12 +21,10 @@ pub fn drain_step(
     links: &mut [u32],
     keys: &[u64],
     values: &[u64],
-) -> Made
-    ensures { outcome result versions.new links.new keys.now values.now ≡ tells ended (drain (table versions.old links.old keys.now values.now h)) }
+) -> Made<Header>
+    ensures { outcome result versions.new links.new keys.now values.now ≡ tells Ended (drain (table versions.old links.old keys.now values.now h)) }
 {
-    let stepped = dense_drain::drain_step(h, versions, links, keys, values);
-    let header = stepped.header;
-    let answer = stepped.answer;
+    let Changed { header, answer } = dense_drain::drain_step(h, versions, links, keys, values);
     Made {
         header,
         answer: answers::drained(answer),
@@ -40,12 +38,10 @@ pub fn drain_step_by(
     links: &mut [u32],
     keys: &[u64],
     values: &[u64],
-) -> Made
-    ensures { outcome result versions.new links.new keys.now values.now ≡ tells ended (drain (table versions.old links.old keys.now values.now h)) }
+) -> Made<Header>
+    ensures { outcome result versions.new links.new keys.now values.now ≡ tells Ended (drain (table versions.old links.old keys.now values.now h)) }
 {
-    let stepped = dense_lent::drain_step_by(h, versions, links, keys, values);
-    let header = stepped.header;
-    let answer = stepped.answer;
+    let Changed { header, answer } = dense_lent::drain_step_by(h, versions, links, keys, values);
     Made {
         header,
         answer: answers::drained(answer),
@@ -59,12 +55,10 @@ pub fn retain(
     keys: &mut [u64],
     values: &mut [u64],
     rule: Rule,
-) -> Made
-    ensures { outcome result versions.new links.new keys.new values.new ≡ tells done (retain (table versions.old links.old keys.old values.old h) rule) }
+) -> Made<Header>
+    ensures { outcome result versions.new links.new keys.new values.new ≡ tells Done (retain (table versions.old links.old keys.old values.old h) rule) }
 {
-    let retained = dense_retain::retain(h, versions, links, keys, values, rule);
-    let header = retained.header;
-    let answer = retained.answer;
+    let Changed { header, answer } = dense_retain::retain(h, versions, links, keys, values, rule);
     Made {
         header,
         answer: answers::verdict(answer),
@@ -77,12 +71,10 @@ pub fn clear(
     links: &mut [u32],
     keys: &[u64],
     values: &[u64],
-) -> Made
-    ensures { outcome result versions.new links.new keys.now values.now ≡ tells done (clear (table versions.old links.old keys.now values.now h)) }
+) -> Made<Header>
+    ensures { outcome result versions.new links.new keys.now values.now ≡ tells Done (clear (table versions.old links.old keys.now values.now h)) }
 {
-    let cleared = dense_clear::clear(h, versions, links, keys, values);
-    let header = cleared.header;
-    let answer = cleared.answer;
+    let Changed { header, answer } = dense_clear::clear(h, versions, links, keys, values);
     Made {
         header,
         answer: answers::verdict(answer),
@@ -99,7 +91,7 @@ pub fn disjoint(
     wanted: &[u64],
     out: &mut [u32],
 ) -> Answer
-    ensures { leaves result out.new versions.new ≡ tells_places (places (length wanted.now)) (disjointly (table versions.old links.now keys.now values.now h) wanted.now out.old) }
+    ensures { leaves result out.new versions.new ≡ tells_places (Places (length wanted.now)) (disjointly (table versions.old links.now keys.now values.now h) wanted.now out.old) }
 {
     let count = wanted.len();
     let judged = dense_disjoint::disjoint(h, versions, links, keys, values, wanted, out);

@@ -1,4 +1,4 @@
-// What a call on a secondary map answered, as one kind and up to three numbers.
+// What a call on a secondary map answered.
 #![tactic(auto)]
 
 ghost use Rattle.std.specs.Prelude.{◌≡◌};
@@ -6,110 +6,88 @@ ghost use Rattle.secondary.specs.Answers.{length_of, truth_of, found_of, got_of,
 ghost use Rattle.secondary_put.specs.Outcomes.{begun_of};
 ghost use Rattle.secondary_enter.specs.Outcomes.{inserted_of};
 ghost use Rattle.secondary_sweep.specs.Outcomes.{swept_of};
-ghost use Rattle.answers.specs.Kinds.{done, ended, places};
-ghost use Rattle.map_answers.specs.Listed.{listed, listed_slot, headed, listed_header};
+ghost use Rattle.answers.specs.declared.Answer.TheVariants.{Done, Ended, Places};
+ghost use Rattle.map_answers.specs.Listed.{listed, listed_slot, listed_header};
 
-use answers::{
-    Answer, DONE, ENDED, IGNORED, KEPT, MAP_HEADER, NUMBER, PLACES, REPLACED, STEP, STORED,
-};
+use answers::Answer;
 use map::MapHeader;
-use secondary::{Found, Got, Length, Step, Truth};
+use refusal::Refusal;
+use secondary::Element;
 use secondary_enter::Inserted;
-use secondary_put::Begun;
-use secondary_sweep::Swept;
 
-pub fn header(h: MapHeader) -> Answer
-    ensures { result ≡ headed h }
-{
-    Answer::new(MAP_HEADER, h.s as u64, h.count as u64, 0)
-}
-
-pub fn started(start: Begun) -> Answer
+pub fn started(start: Result<MapHeader, Refusal>) -> Answer
     ensures { result ≡ listed_header (begun_of start) }
 {
-    match start {
-        Begun::Header(h) => header(h),
-        Begun::Refused(why) => Answer::refused(why),
-    }
+    start.map_or_else(Answer::refused, Answer::MapHeader)
 }
 
-pub fn value(got: Got) -> Answer
-    ensures { result ≡ listed done (got_of got) }
+pub fn value(got: Result<u64, Refusal>) -> Answer
+    ensures { result ≡ listed Done (got_of got) }
 {
-    match got {
-        Got::Value(x) => Answer::of(NUMBER, x),
-        Got::Refused(why) => Answer::refused(why),
-    }
+    got.map_or_else(Answer::refused, Answer::Number)
 }
 
-pub fn counted(count: Length) -> Answer
-    ensures { result ≡ listed done (length_of count) }
+pub fn counted(count: Result<u32, Refusal>) -> Answer
+    ensures { result ≡ listed Done (length_of count) }
 {
-    match count {
-        Length::Count(n) => Answer::of(NUMBER, n as u64),
-        Length::Refused(why) => Answer::refused(why),
-    }
+    count.map_or_else(Answer::refused, |n| Answer::Number(u64::from(n)))
 }
 
-pub fn tested(test: Truth) -> Answer
-    ensures { result ≡ listed done (truth_of test) }
+pub fn tested(test: Result<bool, Refusal>) -> Answer
+    ensures { result ≡ listed Done (truth_of test) }
 {
-    match test {
-        Truth::Is(yes) => Answer::truth(yes),
-        Truth::Refused(why) => Answer::refused(why),
-    }
+    test.map_or_else(Answer::refused, Answer::Truth)
 }
 
-pub fn slotted(slot: Found) -> Answer
+pub fn slotted(slot: Result<usize, Refusal>) -> Answer
     ensures { result ≡ listed_slot (found_of slot) }
 {
-    match slot {
-        Found::At(i) => Answer::of(NUMBER, i as u64),
-        Found::Refused(why) => Answer::refused(why),
-    }
+    slot.map_or_else(Answer::refused, |i| Answer::Number(i as u64))
 }
 
-pub fn stepped(step: Step) -> Answer
-    ensures { result ≡ listed ended (step_of step) }
+pub fn stepped(step: Result<Option<Element>, Refusal>) -> Answer
+    ensures { result ≡ listed Ended (step_of step) }
 {
     match step {
-        Step::Element {
+        Ok(
+            Some(
+                Element {
+                    key,
+                    value: x,
+                    next,
+                },
+            ),
+        ) => Answer::Step {
             key,
             value: x,
             next,
-        } => Answer::new(STEP, key, x, next as u64),
-        Step::Done => Answer::of(ENDED, 0),
-        Step::Refused(why) => Answer::refused(why),
+        },
+        Ok(None) => Answer::Ended,
+        Err(why) => Answer::refused(why),
     }
 }
 
-pub fn inserted(insert: Inserted) -> Answer
-    ensures { result ≡ listed done (inserted_of insert) }
+pub fn inserted(insert: Result<Inserted, Refusal>) -> Answer
+    ensures { result ≡ listed Done (inserted_of insert) }
 {
     match insert {
-        Inserted::Ignored => Answer::of(IGNORED, 0),
-        Inserted::Replaced(x) => Answer::of(REPLACED, x),
-        Inserted::Kept => Answer::of(KEPT, 0),
-        Inserted::Stored => Answer::of(STORED, 0),
-        Inserted::Refused(why) => Answer::refused(why),
+        Ok(Inserted::Ignored) => Answer::Ignored,
+        Ok(Inserted::Replaced(x)) => Answer::Replaced(x),
+        Ok(Inserted::Kept) => Answer::Kept,
+        Ok(Inserted::Stored) => Answer::Stored,
+        Err(why) => Answer::refused(why),
     }
 }
 
-pub fn swept(sweep: Swept) -> Answer
-    ensures { result ≡ listed done (swept_of sweep) }
+pub fn swept(sweep: Result<(), Refusal>) -> Answer
+    ensures { result ≡ listed Done (swept_of sweep) }
 {
-    match sweep {
-        Swept::Done => Answer::of(DONE, 0),
-        Swept::Refused(why) => Answer::refused(why),
-    }
+    sweep.map_or_else(Answer::refused, |()| Answer::Done)
 }
 
 // The verdict on a list of so many keys, whose slots stand in the output.
-pub fn slotting(sweep: Swept, count: usize) -> Answer
-    ensures { result ≡ listed (places count) (swept_of sweep) }
+pub fn slotting(sweep: Result<(), Refusal>, count: usize) -> Answer
+    ensures { result ≡ listed (Places count) (swept_of sweep) }
 {
-    match sweep {
-        Swept::Done => Answer::of(PLACES, count as u64),
-        Swept::Refused(why) => Answer::refused(why),
-    }
+    sweep.map_or_else(Answer::refused, |()| Answer::Places(count))
 }

@@ -27,9 +27,7 @@ pub fn mark(versions: &mut [u32], k: u64)
 pub fn mark_all(versions: &mut [u32], wanted: &[u64])
     ensures { versions.new ≡ marked versions.old wanted.now }
 {
-    let mut i = 0;
-    while i < wanted.len() {
-        mark(versions, wanted[i]);
-        i += 1;
+    for k in wanted {
+        mark(versions, *k);
     }
 }

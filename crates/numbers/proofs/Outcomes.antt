@@ -1,25 +1,25 @@
 -- No second outcome of `take_byte`: what its answer says is one-to-one. Assumes nothing.
-use Prim.Native.Nat.{ℕ}
 use mathlib.Core.Path.{◌≡◌, sym, ap}
-use native.Mathlib.Omega.{arith}
 use Rattle.lists.proofs.Only.{only_read}
+use Rattle.std.specs.Prelude.{Result, Ok, Err}
+use Rattle.refusal.specs.declared.Refusal.{Refusal}
 use Rattle.refusal.proofs.Numbers.{number_one_to_one}
 use Rattle.writing.specs.Told.{Told}
 use Rattle.writing.proofs.Told.{never, refused-same}
 use Rattle.numbers.specs.Numbers.{Step, step_of}
 use Rattle.numbers.specs.declared.Taken.{Taken}
-use Rattle.numbers.specs.declared.Taken.TheVariants.{More, Whole, Refused}
+use Rattle.numbers.specs.declared.Taken.TheVariants.{More, Whole}
 
-pub step_one_to_one : (r q : Taken) → step_of r ≡ step_of q → r ≡ q
-step_one_to_one (More p) (More q) e = ap More (cc)
-step_one_to_one (More p) (Whole v) e = let z : ◌≡◌ {A = ℕ} 0 1 = cc in absurd (omega arith)
-step_one_to_one (More p) (Refused k) e = never (sym e)
-step_one_to_one (Whole v) (More q) e = let z : ◌≡◌ {A = ℕ} 0 1 = cc in absurd (omega arith)
-step_one_to_one (Whole v) (Whole w) e = ap Whole (cc)
-step_one_to_one (Whole v) (Refused k) e = never (sym e)
-step_one_to_one (Refused k) (More q) e = never e
-step_one_to_one (Refused k) (Whole w) e = never e
-step_one_to_one (Refused k) (Refused j) e = ap Refused (number_one_to_one k j (refused-same e))
+pub step_one_to_one : (r q : Result Taken Refusal) → step_of r ≡ step_of q → r ≡ q
+step_one_to_one (Ok (More p)) (Ok (More q)) e = cc
+step_one_to_one (Ok (More p)) (Ok (Whole v)) e = cc
+step_one_to_one (Ok (More p)) (Err k) e = never (sym e)
+step_one_to_one (Ok (Whole v)) (Ok (More q)) e = cc
+step_one_to_one (Ok (Whole v)) (Ok (Whole w)) e = cc
+step_one_to_one (Ok (Whole v)) (Err k) e = never (sym e)
+step_one_to_one (Err k) (Ok (More q)) e = never e
+step_one_to_one (Err k) (Ok (Whole w)) e = never e
+step_one_to_one (Err k) (Err j) e = ap Err (number_one_to_one k j (refused-same e))
 
-pub only_step : {x : Told Step} {r q : Taken} → step_of r ≡ x → step_of q ≡ x → r ≡ q
+pub only_step : {x : Told Step} {r q : Result Taken Refusal} → step_of r ≡ x → step_of q ≡ x → r ≡ q
 only_step = only_read step_of step_one_to_one

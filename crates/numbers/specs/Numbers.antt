@@ -4,12 +4,13 @@
 -- A byte below 128 is a number's last group; a byte of 128 or more holds a group less 128, and the number goes on:
 --
 --     300 = 44 + 128 · 2         AC 02         AC = 44 + 128
-use Rattle.std.specs.Prelude.{ℕ, zero, suc, ◌+◌, ◌-◌, ◌*◌, ◌/◌, ◌%◌, ◌^◌, ◌<◌, true, false, cond, List, [], ◌∷◌, ltb, drop, get_or}
+use Rattle.std.specs.Prelude.{ℕ, zero, suc, ◌+◌, ◌-◌, ◌*◌, ◌/◌, ◌%◌, ◌^◌, ◌<◌, true, false, cond, List, [], ◌∷◌, ltb, drop, get_or, Result, Ok, Err}
+use Rattle.refusal.specs.declared.Refusal.{Refusal}
 use Rattle.refusal.specs.Refusals.{number_of}
 use Rattle.writing.specs.Told.{Told, tells, refused}
 use Rattle.numbers.specs.declared.Partial.{Partial}
 use Rattle.numbers.specs.declared.Taken.{Taken}
-use Rattle.numbers.specs.declared.Taken.TheVariants.{More, Whole, Refused}
+use Rattle.numbers.specs.declared.Taken.TheVariants.{More, Whole}
 
 -- ---- reading
 
@@ -18,10 +19,10 @@ pub data Step : Type 0 where
   whole : ℕ → Step
   more : Partial → Step
 
-abbrev pub step_of : Taken → Told Step
-step_of (More p) = tells (more p)
-step_of (Whole v) = tells (whole v)
-step_of (Refused r) = refused (number_of r)
+abbrev pub step_of : Result Taken Refusal → Told Step
+step_of (Ok (More p)) = tells (more p)
+step_of (Ok (Whole v)) = tells (whole v)
+step_of (Err r) = refused (number_of r)
 
 -- what one is worth in the group after so many groups
 abbrev pub worth : ℕ → ℕ

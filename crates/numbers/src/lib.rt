@@ -21,44 +21,37 @@ pub enum Taken {
     More(Partial),
     // The byte is its last one.
     Whole(u64),
-    Refused(Refusal),
-}
-
-fn wide(b: u8) -> u64
-    ensures { result ≡ b }
-{
-    b as u64
 }
 
 // Takes the next byte of a number of at most `limit`. What the number is at least, with this byte, is compared with the limit
 // by a shift to the right, which cannot overflow; after ten groups no number of 64 bits goes on.
 #[tactic(auto, unfolding(crate::specs::Numbers::take_of), using(std::proofs::lemmas::Bool::Decides::nat_tests))]
-pub fn take_byte(state: Partial, b: u8, limit: u64) -> Taken
+pub fn take_byte(state: Partial, b: u8, limit: u64) -> Result<Taken, Refusal>
     ensures { step_of result ≡ take_of limit state b }
 {
     let value = state.value;
     let groups = state.groups;
     if b == 0 {
         if 0 < groups {
-            return Taken::Refused(Refusal::Form);
+            return Err(Refusal::Form);
         }
     }
     if 9 < groups {
-        return Taken::Refused(Refusal::Form);
+        return Err(Refusal::Form);
     }
     if limit < value {
-        return Taken::Refused(Refusal::Form);
+        return Err(Refusal::Form);
     }
     let shift = 7 * groups;
-    let group = wide(b);
+    let group = b as u64;
     if (limit - value) >> shift < group {
-        return Taken::Refused(Refusal::Form);
+        return Err(Refusal::Form);
     }
     if group < 128 {
-        return Taken::Whole(value + (group << shift));
+        return Ok(Taken::Whole(value + (group << shift)));
     }
-    Taken::More(Partial {
+    Ok(Taken::More(Partial {
         value: value + (group % 128 << shift),
         groups: groups + 1,
-    })
+    }))
 }

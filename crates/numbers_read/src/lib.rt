@@ -8,51 +8,45 @@ ghost use Rattle.numbers_read.specs.Reading.{reading_of};
 use numbers::{Partial, Taken, take_byte};
 use refusal::Refusal;
 
-// What reading a number finds.
+// A number that was read, and the place after it.
 #[derive(Clone, Copy)]
-pub enum Number {
-    // Its value and the place after it.
-    Read { value: u64, next: usize },
-    // The bytes end before it is whole: refusal 10. It is not in shortest form, or too large: refusal 11.
-    Refused(Refusal),
+pub struct Number {
+    pub value: u64,
+    pub next: usize,
 }
 
-// The number of at most `limit` that stands at a place.
-fn read_number(bytes: &[u8], at: usize, limit: u64) -> Number
+// The number of at most `limit` that stands at a place. Refused where the bytes end before it is whole (10), and where it is not in shortest form,
+// or too large (11).
+fn read_number(bytes: &[u8], at: usize, limit: u64) -> Result<Number, Refusal>
     ensures { reading_of result ≡ read_from limit (drop at bytes.now) at unread }
 {
-    let mut place = at;
     let mut state = Partial {
         value: 0,
         groups: 0,
     };
-    while place < bytes.len() {
-        let b = bytes[place];
-        place += 1;
-        match take_byte(state, b, limit) {
-            Taken::Refused(why) => {
-                return Number::Refused(why);
-            }
+    for place in at..bytes.len() {
+        match take_byte(state, bytes[place], limit)? {
             Taken::Whole(value) => {
-                return Number::Read { value, next: place };
+                return Ok(Number {
+                    value,
+                    next: place + 1,
+                });
             }
-            Taken::More(next) => {
-                state = next;
-            }
+            Taken::More(more) => state = more,
         }
     }
-    Number::Refused(Refusal::Ends)
+    Err(Refusal::Ends)
 }
 
 // The number of 32 bits that stands at a place.
-pub fn read_u32(bytes: &[u8], at: usize) -> Number
+pub fn read_u32(bytes: &[u8], at: usize) -> Result<Number, Refusal>
     ensures { reading_of result ≡ number_at 32 bytes.now at }
 {
     read_number(bytes, at, 4_294_967_295)
 }
 
 // The number of 64 bits that stands at a place.
-pub fn read_u64(bytes: &[u8], at: usize) -> Number
+pub fn read_u64(bytes: &[u8], at: usize) -> Result<Number, Refusal>
     ensures { reading_of result ≡ number_at 64 bytes.now at }
 {
     read_number(bytes, at, 18_446_744_073_709_551_615)

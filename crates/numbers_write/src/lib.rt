@@ -7,7 +7,7 @@ ghost use Rattle.writing.specs.Writing.{told_of, outcome, written, written_after
 ghost use Rattle.numbers.specs.Numbers.{encoded};
 
 use refusal::Refusal;
-use writing::Written;
+use writing::has_room;
 
 // How many bytes the shortest form of a number has.
 pub fn encoded_len(n: u64) -> usize
@@ -38,26 +38,21 @@ fn put_number(n: u64, at: usize, out: &mut [u8])
 }
 
 // Writes the shortest form of a number from a place on. The whole length is judged before the first byte is stored.
-pub fn write_number(n: u64, at: usize, out: &mut [u8]) -> Written
+#[tactic(auto, unfolding(writing::specs::Writing::written), using(std::proofs::lemmas::Bool::Decides::nat_tests))]
+pub fn write_number(n: u64, at: usize, out: &mut [u8]) -> Result<usize, Refusal>
     ensures { outcome result out.new ≡ written at (encoded n) out.old }
 {
     let count = encoded_len(n);
-    if out.len() < at {
-        return Written::Refused(Refusal::Short);
-    }
-    if out.len() - at < count {
-        return Written::Refused(Refusal::Short);
+    if !has_room(at, count, out.len()) {
+        return Err(Refusal::Short);
     }
     put_number(n, at, out);
-    Written::End(at + count)
+    Ok(at + count)
 }
 
 // Writes a number where the last one ended; a refusal is handed on, and nothing is written.
-pub fn write_after(last: Written, n: u64, out: &mut [u8]) -> Written
+pub fn write_after(last: Result<usize, Refusal>, n: u64, out: &mut [u8]) -> Result<usize, Refusal>
     ensures { outcome result out.new ≡ written_after (told_of last) (encoded n) out.old }
 {
-    match last {
-        Written::Refused(why) => Written::Refused(why),
-        Written::End(at) => write_number(n, at, out),
-    }
+    write_number(n, last?, out)
 }

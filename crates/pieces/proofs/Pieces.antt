@@ -6,21 +6,24 @@ use native.Mathlib.Nat.{add-zero}
 use native.Mathlib.Omega.{arith}
 use lib.ListN.{length, length-append}
 use borrow.Author.Tests.{le-leb}
+use Rattle.std.specs.Prelude.{Result, Ok, Err}
+use Rattle.std.specs.Result.{result_unwrap_or}
+use Rattle.refusal.specs.declared.Refusal.{Refusal}
 use Rattle.lists.specs.Put.{put}
 use Rattle.lists.proofs.Put.{put_nil, put-put, length-put}
 use Rattle.writing.specs.Told.{Told}
-use Rattle.writing.specs.Writing.{written}
+use Rattle.writing.specs.Writing.{outcome, written}
 use Rattle.writing.proofs.Writing.{room-written}
 use Rattle.pieces.specs.Pieces.{page, place_of, wrote, wrote_all, joined}
 
 -- what a writer's outcome leaves: the place that it hands back, and the buffer
-pub wrote_by : (at : ℕ) (t b d : List ℕ) (n : ℕ) (w : Told ℕ) → n ≡ place_of at w → ◌≡◌ {A = Told ℕ × List ℕ} (w, d) (written at t b) → page n d ≡ wrote (page at b) t
+pub wrote_by : (at : ℕ) (t b d : List ℕ) (n : ℕ) (w : Result ℕ Refusal) → n ≡ result_unwrap_or w at → outcome w d ≡ written at t b → page n d ≡ wrote (page at b) t
 unfolding wrote
-wrote_by at t b d n w p e =
-    ap (λ (m : ℕ). page m d) p ∙ ap (λ (o : Told ℕ × List ℕ). page (place_of at o.0) o.1) e
+wrote_by at t b d n (Ok m) p e = ap (λ (k : ℕ). page k d) p ∙ ap (λ (o : Told ℕ × List ℕ). page (place_of at o.0) o.1) e
+wrote_by at t b d n (Err r) p e = ap (λ (k : ℕ). page k d) p ∙ ap (λ (o : Told ℕ × List ℕ). page (place_of at o.0) o.1) e
 
 wrote-fits : (at : ℕ) (b t : List ℕ) → at + length t ≤ length b → page (at + length t) (put b at t) ≡ wrote (page at b) t
-wrote-fits at b t h = wrote_by at t b _ _ _ refl (room-written at _ t b refl _ (le-leb _ _ h) refl)
+wrote-fits at b t h = wrote_by at t b _ _ (Ok (at + length t)) refl (room-written at _ t b refl _ (le-leb _ _ h) refl)
 
 -- where the whole text fits, the pieces stand there joined, and the place is behind them
 pub wrote_all-fits : (at : ℕ) (b : List ℕ) (ts : List (List ℕ)) → at + length (joined ts) ≤ length b
@@ -55,7 +58,3 @@ module _ (p q r : ℕ × List ℕ) (a : List ℕ) (e : q ≡ p) where
 
   pub then_two : (b : List ℕ) → r ≡ wrote (wrote q a) b → r ≡ wrote (wrote p a) b
   then_two b f = f ∙ ap (λ (z : ℕ × List ℕ). wrote (wrote z a) b) e
-
--- a piece of two bytes, each by its own law
-pub wrote-two : (p r : ℕ × List ℕ) {x y m n : ℕ} → x ≡ m → y ≡ n → r ≡ wrote p (x ∷ y ∷ []) → r ≡ wrote p (m ∷ n ∷ [])
-wrote-two p r e f g = g ∙ ap₂ (λ (i j : ℕ). wrote p (i ∷ j ∷ [])) e f

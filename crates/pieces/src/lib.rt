@@ -4,44 +4,35 @@
 
 ghost use Rattle.std.specs.Prelude.{◌≡◌, [], ◌∷◌, ◌<◌};
 ghost use Rattle.keys.specs.Keys.{key_of};
-ghost use Rattle.writing.specs.Writing.{told_of};
 ghost use Rattle.text.specs.Text.{decimal, key_text};
-ghost use Rattle.pieces.specs.Pieces.{page, place_of, wrote, wrote_all, hex_digit, hex_text};
+ghost use Rattle.pieces.specs.Pieces.{page, wrote, wrote_all, hex_digit, hex_text};
 
 use keys::KeyData;
 use text::{write_decimal, write_key};
-use writing::{Written, write_bytes};
+use writing::write_bytes;
 
-// The place behind a text that was written at a place; a text that did not fit is left out.
-fn behind(text: Written, at: usize) -> usize
-    ensures { result ≡ place_of at (told_of text) }
-{
-    match text {
-        Written::End(end) => end,
-        Written::Refused(_) => at,
-    }
-}
-
+// Bytes as they stand.
 pub fn bytes(text: &[u8], at: usize, out: &mut [u8]) -> usize
     ensures { page result out.new ≡ wrote (page at out.old) text.now }
 {
-    behind(write_bytes(text, at, out), at)
+    write_bytes(text, at, out).unwrap_or(at)
 }
 
 pub fn number(value: u64, at: usize, out: &mut [u8]) -> usize
     ensures { page result out.new ≡ wrote (page at out.old) (decimal value) }
 {
-    behind(write_decimal(value, at, out), at)
+    write_decimal(value, at, out).unwrap_or(at)
 }
 
 // A key as the script prints it.
 pub fn key(value: u64, at: usize, out: &mut [u8]) -> usize
     ensures { page result out.new ≡ wrote (page at out.old) (key_text (key_of value)) }
 {
-    behind(write_key(KeyData::from_ffi(value), at, out), at)
+    write_key(KeyData::from_ffi(value), at, out).unwrap_or(at)
 }
 
 // A number after a label.
+#[tactic(auto, using(crate::proofs::Pieces::then_one))]
 pub fn labelled(label: &[u8], value: u64, at: usize, out: &mut [u8]) -> usize
     ensures { page result out.new ≡ wrote_all (page at out.old) (label.now ∷ decimal value ∷ []) }
 {
@@ -49,6 +40,7 @@ pub fn labelled(label: &[u8], value: u64, at: usize, out: &mut [u8]) -> usize
     number(value, n, out)
 }
 
+#[tactic(auto, unfolding(crate::specs::Pieces::hex_digit), using(std::proofs::lemmas::Bool::Decides::nat_tests))]
 fn hex_digit(value: u8) -> u8
     requires { value < 16 }
     ensures { result ≡ hex_digit value }

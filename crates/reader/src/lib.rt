@@ -8,8 +8,9 @@ ghost use Rattle.numbers.specs.Numbers.{number_at};
 ghost use Rattle.records.specs.Records.{record_of, record_at};
 ghost use Rattle.reader.specs.Readers.{reader_at};
 
-use numbers_read::Number;
-use records::RecordRead;
+use numbers_read::{Number, read_u32, read_u64};
+use records::{RecordRead, read_record};
+use refusal::Refusal;
 
 #[derive(Clone, Copy)]
 pub struct ImageReader<'a> {
@@ -26,24 +27,24 @@ impl<'a> ImageReader<'a> {
     }
 
     // The number of 32 bits at the reader's place.
-    pub fn next_u32(self) -> Number
+    pub fn next_u32(self) -> Result<Number, Refusal>
         ensures { reading_of result ≡ number_at 32 self.entry.bytes.now self.entry.at }
     {
-        numbers_read::read_u32(self.bytes, self.at)
+        read_u32(self.bytes, self.at)
     }
 
     // The number of 64 bits at the reader's place.
-    pub fn next_u64(self) -> Number
+    pub fn next_u64(self) -> Result<Number, Refusal>
         ensures { reading_of result ≡ number_at 64 self.entry.bytes.now self.entry.at }
     {
-        numbers_read::read_u64(self.bytes, self.at)
+        read_u64(self.bytes, self.at)
     }
 
     // The record at the reader's place.
-    pub fn next_record(self) -> RecordRead
+    pub fn next_record(self) -> Result<RecordRead, Refusal>
         ensures { record_of result ≡ record_at self.entry.bytes.now self.entry.at }
     {
-        records::read_record(self.bytes, self.at)
+        read_record(self.bytes, self.at)
     }
 
     // The same bytes at another place.
@@ -58,7 +59,7 @@ impl<'a> ImageReader<'a> {
 }
 
 // The record at a place of an image, read by the image reader.
-pub fn record_in(image: &[u8], at: usize) -> RecordRead
+pub fn record_in(image: &[u8], at: usize) -> Result<RecordRead, Refusal>
     ensures { record_of result ≡ record_at image.now at }
 {
     ImageReader::new(image).moved(at).next_record()

@@ -1,13 +1,13 @@
 -- What a record and a slot count say, from what their numbers say. Assumes nothing.
-use Prim.Native.Nat.{ℕ, ◌+◌, ◌≤◌, ◌<◌}
+use Prim.Native.Nat.{ℕ, ◌+◌, ◌≤◌}
 use mathlib.Core.Path.{◌≡◌, ap, ◌∙◌}
 use mathlib.Core.List.{List}
 use native.Mathlib.Omega.{arith}
 use lib.ListN.{length, length-append}
 use lib.Dec.{ltb}
-use borrow.Author.Tests.{lt-ltb, le-ltb, ltb-false, eq-eqb, ne_eqb}
+use borrow.Author.Tests.{le-ltb, ltb-false, eq-eqb, ne_eqb}
 use Rattle.lists.proofs.Tests.{split}
-use Rattle.writing.specs.Told.{tells, refused}
+use Rattle.writing.specs.Told.{tells}
 use Rattle.numbers.specs.Numbers.{number_at, encoded}
 use Rattle.writing.proofs.Told.{never, told, both, by_answer}
 use Rattle.numbers.proofs.Encoded.{length_last, length_bound}
@@ -18,30 +18,14 @@ use Rattle.records.specs.Records.{record_at, count_of, record_bytes, Fit}
 -- ---- a record
 
 module _ (s : List ℕ) (at : ℕ) where
-  pub no_version : (k : ℕ) → number_at 32 s at ≡ refused k → record_at s at ≡ refused k
-  unfolding record_at
-  no_version k e = rw e
-
   module _ (v n : ℕ) (e : number_at 32 s at ≡ tells (v, n)) where
-    pub no_presence : (k : ℕ) → number_at 32 s n ≡ refused k → record_at s at ≡ refused k
-    unfolding record_at
-    no_presence k f = rw (e, f)
-
     module _ (p i : ℕ) (f : number_at 32 s n ≡ tells (p, i)) where
       pub vacant : p ≡ 0 → record_at s at ≡ tells (Vacant v, i)
       unfolding record_at
       vacant h = rw (e, f, eq-eqb p 0 h)
 
       module _ (h : p ≡ 0 → ⊥) where
-        pub neither : (p ≡ 1 → ⊥) → record_at s at ≡ refused 16
-        unfolding record_at
-        neither j = rw (e, f, ne_eqb p 0 h, ne_eqb p 1 j)
-
         module _ (j : p ≡ 1) where
-          pub no_value : (k : ℕ) → number_at 64 s i ≡ refused k → record_at s at ≡ refused k
-          unfolding record_at
-          no_value k g = rw (e, f, ne_eqb p 0 h, eq-eqb p 1 j, g)
-
           pub occupied : (x o : ℕ) → number_at 64 s i ≡ tells (x, o) → record_at s at ≡ tells (Occupied v x, o)
           unfolding record_at
           occupied x o g = rw (e, f, ne_eqb p 0 h, eq-eqb p 1 j, g)
@@ -49,15 +33,7 @@ module _ (s : List ℕ) (at : ℕ) where
 -- ---- the slot count
 
 module _ (s : List ℕ) (most : ℕ) where
-  pub no_count : (k : ℕ) → number_at 32 s 0 ≡ refused k → count_of s most ≡ refused k
-  unfolding count_of
-  no_count k e = rw e
-
   module _ (c n : ℕ) (e : number_at 32 s 0 ≡ tells (c, n)) where
-    pub too_many : most < c → count_of s most ≡ refused 12
-    unfolding count_of
-    too_many h = rw (e, lt-ltb most c h)
-
     pub counted : c ≤ most → count_of s most ≡ tells (c, n)
     unfolding count_of
     counted h = rw (e, le-ltb most c h)

@@ -4,21 +4,21 @@
 --     00 00           slot 0: version 0, presence 0
 --     02 00           slot 1: version 2, presence 0
 --     01 01 AC 02     slot 2: version 1, presence 1, value 300
-use Rattle.std.specs.Prelude.{◌≡◌, ℕ, zero, suc, ◌^◌, ◌≤◌, ◌<◌, cond, List, [], ◌∷◌, ◌++◌, ltb, eqb, length}
+use Rattle.std.specs.Prelude.{◌≡◌, ℕ, zero, suc, ◌^◌, ◌≤◌, ◌<◌, cond, List, [], ◌∷◌, ◌++◌, ltb, eqb, length, Result, Ok, Err}
+use Rattle.refusal.specs.declared.Refusal.{Refusal}
 use Rattle.refusal.specs.Refusals.{number_of}
 use Rattle.writing.specs.Told.{Told, tells, refused, onward}
 use Rattle.numbers.specs.Numbers.{number_at, encoded}
 use Rattle.records.specs.declared.Record.{Record}
 use Rattle.records.specs.declared.Record.TheVariants.{Vacant, Occupied}
 use Rattle.records.specs.declared.RecordRead.{RecordRead}
-use Rattle.records.specs.declared.RecordRead.TheVariants.{Read, Refused}
 
 -- ---- the answers' values and numbers
 
 -- a record and the place after it; or the number of a refusal
-abbrev pub record_of : RecordRead → Told (Record × ℕ)
-record_of (Read r n) = tells (r, n)
-record_of (Refused r) = refused (number_of r)
+abbrev pub record_of : Result RecordRead Refusal → Told (Record × ℕ)
+record_of (Ok r) = tells (r.slot, r.next)
+record_of (Err r) = refused (number_of r)
 
 -- a record's version and presence
 abbrev pub version_of : Record → ℕ

@@ -5,9 +5,10 @@ ghost use Rattle.std.specs.Prelude.{◌≡◌, length};
 ghost use Rattle.writing.specs.Writing.{outcome, written};
 ghost use Rattle.records.specs.Records.{record_of, record_at, record_bytes};
 
-use numbers_read::Number;
+use numbers_read::{read_u32, read_u64};
+use numbers_write::{encoded_len, write_number};
 use refusal::Refusal;
-use writing::Written;
+use writing::has_room;
 
 // A slot as an image has it: vacant, or occupied by a value.
 #[derive(Clone, Copy)]
@@ -16,50 +17,38 @@ pub enum Record {
     Occupied { version: u32, value: u64 },
 }
 
-// What reading a record finds.
+// A record that was read, and the place after it.
 #[derive(Clone, Copy)]
-pub enum RecordRead {
-    // The record and the place after it.
-    Read { slot: Record, next: usize },
-    // A number is not whole (10) or not in shortest form or too large (11); the presence is neither 0 nor 1 (16).
-    Refused(Refusal),
+pub struct RecordRead {
+    pub slot: Record,
+    pub next: usize,
 }
 
-// The record that stands at a place. Its presence is read as a whole number before it is judged.
+// The record that stands at a place. Refused where a number is not whole (10), or not in shortest form or too large (11), and where the presence is
+// neither 0 nor 1 (16): it is read as a whole number before it is judged.
 #[tactic(auto, unfolding(crate::specs::Records::record_at), using(std::proofs::lemmas::Bool::Decides::nat_tests))]
-pub fn read_record(bytes: &[u8], at: usize) -> RecordRead
+pub fn read_record(bytes: &[u8], at: usize) -> Result<RecordRead, Refusal>
     ensures { record_of result ≡ record_at bytes.now at }
 {
-    match numbers_read::read_u32(bytes, at) {
-        Number::Refused(no_version) => RecordRead::Refused(no_version),
-        Number::Read {
-            value: v,
-            next: behind,
-        } => match numbers_read::read_u32(bytes, behind) {
-            Number::Refused(no_presence) => RecordRead::Refused(no_presence),
-            Number::Read {
-                value: presence,
-                next: last,
-            } => {
-                let version = v as u32;
-                if presence == 0 {
-                    return RecordRead::Read {
-                        slot: Record::Vacant { version },
-                        next: last,
-                    };
-                }
-                if presence != 1 {
-                    return RecordRead::Refused(Refusal::Presence);
-                }
-                match numbers_read::read_u64(bytes, last) {
-                    Number::Refused(no_value) => RecordRead::Refused(no_value),
-                    Number::Read { value, next } => RecordRead::Read {
-                        slot: Record::Occupied { version, value },
-                        next,
-                    },
-                }
-            }
-        },
+    let first = read_u32(bytes, at)?;
+    let presence = read_u32(bytes, first.next)?;
+    let version = first.value as u32;
+    match presence.value {
+        0 => Ok(RecordRead {
+            slot: Record::Vacant { version },
+            next: presence.next,
+        }),
+        1 => {
+            let last = read_u64(bytes, presence.next)?;
+            Ok(RecordRead {
+                slot: Record::Occupied {
+                    version,
+                    value: last.value,
+                },
+                next: last.next,
+            })
+        }
+        _ => Err(Refusal::Presence),
     }
 }
 
@@ -68,33 +57,31 @@ pub fn record_len(slot: Record) -> usize
     ensures { result ≡ length (record_bytes slot) }
 {
     match slot {
-        Record::Vacant { version } => numbers_write::encoded_len(version as u64) + 1,
+        Record::Vacant { version } => encoded_len(version as u64) + 1,
         Record::Occupied { version, value } => {
-            numbers_write::encoded_len(version as u64) + 1 + numbers_write::encoded_len(value)
+            encoded_len(version as u64) + 1 + encoded_len(value)
         }
     }
 }
 
 // Writes a record from a place on. The whole length is judged before the first byte is stored.
-pub fn write_record(slot: Record, at: usize, out: &mut [u8]) -> Written
+#[tactic(auto, unfolding(writing::specs::Writing::written), using(std::proofs::lemmas::Bool::Decides::nat_tests))]
+pub fn write_record(slot: Record, at: usize, out: &mut [u8]) -> Result<usize, Refusal>
     ensures { outcome result out.new ≡ written at (record_bytes slot) out.old }
 {
     let count = record_len(slot);
-    if out.len() < at {
-        return Written::Refused(Refusal::Short);
-    }
-    if out.len() - at < count {
-        return Written::Refused(Refusal::Short);
+    if !has_room(at, count, out.len()) {
+        return Err(Refusal::Short);
     }
     match slot {
         Record::Vacant { version } => {
-            let first = numbers_write::write_number(version as u64, at, out);
-            numbers_write::write_after(first, 0, out)
+            let presence = write_number(version as u64, at, out)?;
+            write_number(0, presence, out)
         }
         Record::Occupied { version, value } => {
-            let first = numbers_write::write_number(version as u64, at, out);
-            let second = numbers_write::write_after(first, 1, out);
-            numbers_write::write_after(second, value, out)
+            let presence = write_number(version as u64, at, out)?;
+            let last = write_number(1, presence, out)?;
+            write_number(value, last, out)
         }
     }
 }

@@ -16,3 +16,7 @@ mixed h x = with_left 17 (with_right 7 (with_left 13 (((h + x) % 2 ^ 64 + 114007
 -- a list of numbers, from its front on
 abbrev pub mixed_all : ℕ → List ℕ → ℕ
 mixed_all h l = run mixed h l
+
+-- a list of what stands for numbers, each by its number
+abbrev pub mixed_each : {T : Type 0} → (T → ℕ) → ℕ → List T → ℕ
+mixed_each wide h l = run (λ d x. mixed d (wide x)) h l

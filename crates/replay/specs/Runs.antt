@@ -1,6 +1,6 @@
--- A list taken in from its front, number by number. Assumes nothing.
-use Rattle.std.specs.Prelude.{ℕ, List, [], ◌∷◌}
+-- A list taken in from its front, element by element. Assumes nothing.
+use Rattle.std.specs.Prelude.{List, [], ◌∷◌}
 
-abbrev pub run : {S : Type 0} → (S → ℕ → S) → S → List ℕ → S
+abbrev pub run : {S T : Type 0} → (S → T → S) → S → List T → S
 run step s [] = s
 run step s (x ∷ xs) = run step (step s x) xs

@@ -1,8 +1,8 @@
 // What the programs that replay the lists share: what a line of calls says, and the digest of whole states.
 #![tactic(auto)]
 
-ghost use Rattle.std.specs.Prelude.{◌≡◌, ◌%◌, ◌<◌, min};
-ghost use Rattle.replay.specs.Digest.{mixed, mixed_all};
+ghost use Rattle.std.specs.Prelude.{◌≡◌, ℕ, ◌%◌, ◌<◌, min};
+ghost use Rattle.replay.specs.Digest.{mixed, mixed_each};
 ghost use Rattle.replay.specs.Lines.{blank, longer, taken, key_number, rule_of};
 
 use rules::Rule;
@@ -18,19 +18,8 @@ pub struct Line {
     pub c: u64,
 }
 
-fn wide(b: u8) -> u64
-    ensures { result ≡ b }
-{
-    b as u64
-}
-
-fn wide_u32(x: u32) -> u64
-    ensures { result ≡ x }
-{
-    x as u64
-}
-
 // A number with a decimal digit more.
+#[tactic(auto, using(std::proofs::lemmas::Bool::Decides::nat_tests))]
 fn with_digit(number: u64, digit: u64) -> u64
     requires { digit < 16 }
     ensures { result ≡ longer number digit }
@@ -63,26 +52,19 @@ impl Line {
             return self;
         }
         if self.op == 0 {
-            return Line {
-                op: byte,
-                a: self.a,
-                b: self.b,
-                c: self.c,
-            };
+            return Line { op: byte, ..self };
         }
         if byte == b' ' {
             return Line {
-                op: self.op,
                 a: self.b,
                 b: self.c,
                 c: 0,
+                ..self
             };
         }
         Line {
-            op: self.op,
-            a: self.a,
-            b: self.b,
-            c: with_digit(self.c, wide(byte) % 16),
+            c: with_digit(self.c, u64::from(byte) % 16),
+            ..self
         }
     }
 
@@ -141,58 +123,62 @@ fn key_number(index: u64, version: u64) -> u64
 pub fn least(wanted: usize, there: usize) -> usize
     ensures { result ≡ min wanted there }
 {
-    if wanted <= there {
-        return wanted;
-    }
-    there
+    wanted.min(there)
 }
 
 // ---- digests
 
 // The digest with a number more.
+#[tactic(auto, unfolding(crate::specs::Digest::mixed))]
 pub fn mix(h: u64, x: u64) -> u64
     ensures { result ≡ mixed h x }
 {
-    let sum = std::num::wrapping_add_u64(h, x);
-    let a = std::num::wrapping_add_u64(sum, 0x9e37_79b9_7f4a_7c15);
+    let sum = h.wrapping_add(x);
+    let a = sum.wrapping_add(0x9e37_79b9_7f4a_7c15);
     let b = a ^ (a << 13);
     let c = b ^ (b >> 7);
     c ^ (c << 17)
 }
 
+// A number that fits in 64 bits.
+pub trait Wide: Copy {
+    ghost wide: { Self → ℕ };
+
+    fn wide(self) -> u64
+        ensures { result ≡ wide self };
+}
+
+impl Wide for u8 {
+    ghost wide = { λ x. x };
+
+    fn wide(self) -> u64 {
+        u64::from(self)
+    }
+}
+
+impl Wide for u32 {
+    ghost wide = { λ x. x };
+
+    fn wide(self) -> u64 {
+        u64::from(self)
+    }
+}
+
+impl Wide for u64 {
+    ghost wide = { λ x. x };
+
+    fn wide(self) -> u64 {
+        self
+    }
+}
+
 // The digest with a list of numbers more.
-pub fn mix_u8(h: u64, list: &[u8]) -> u64
-    ensures { result ≡ mixed_all h list.now }
+pub fn mix_all<T: Wide>(h: u64, list: &[T]) -> u64
+    ensures { result ≡ mixed_each T.wide h list.now }
 {
     let mut d = h;
-    let mut i = 0;
-    while i < list.len() {
-        d = mix(d, wide(list[i]));
-        i += 1;
-    }
-    d
-}
-
-pub fn mix_u32(h: u64, list: &[u32]) -> u64
-    ensures { result ≡ mixed_all h list.now }
-{
-    let mut d = h;
-    let mut i = 0;
-    while i < list.len() {
-        d = mix(d, wide_u32(list[i]));
-        i += 1;
-    }
-    d
-}
-
-pub fn mix_u64(h: u64, list: &[u64]) -> u64
-    ensures { result ≡ mixed_all h list.now }
-{
-    let mut d = h;
-    let mut i = 0;
-    while i < list.len() {
-        d = mix(d, list[i]);
-        i += 1;
+    for x in list {
+        d = mix(d, x.wide());
     }
     d
 }

@@ -22,8 +22,8 @@ lent_by l i =
     (cond (eqb i.op 66) (lent_all l.versions l.links (size i.b) (size i.c) l.output)
     (cond (eqb i.op 79) (lent_all l.versions l.links l.keys l.values (size i.c)) l))))
 
--- an array after a line, if the letter is its own: a number is stored in a cell. Past the end nothing is
-unfoldable pub cell : ℕ → Line → ℕ → List ℕ → List ℕ
+-- an array after a line, if the letter is its own: what is given is stored in a cell. Past the end nothing is
+unfoldable pub cell : {T : Type 0} → ℕ → Line → T → List T → List T
 cell letter i x a = cond (eqb i.op letter) (set a i.b x) a
 
 -- the header of a table after a line

@@ -37,6 +37,7 @@ impl Lent {
 const OUTPUT: usize = 8;
 
 // What is lent from a line on: a table of C or a map of L begins with its own lengths.
+#[tactic(auto, unfolding(crate::specs::Bends::lent_by), using(std::proofs::lemmas::Bool::Decides::nat_tests))]
 pub fn lend(before: Lent, line: Line) -> Lent
     ensures { result ≡ lent_by before line }
 {
@@ -65,57 +66,34 @@ pub fn lend(before: Lent, line: Line) -> Lent
         return Lent {
             versions: b,
             links: c,
-            keys: before.keys,
-            values: before.values,
-            output: before.output,
+            ..before
         };
     }
     if op == b'B' {
         return Lent {
-            versions: before.versions,
-            links: before.links,
             keys: b,
             values: c,
-            output: before.output,
+            ..before
         };
     }
     if op == b'O' {
         return Lent {
-            versions: before.versions,
-            links: before.links,
-            keys: before.keys,
-            values: before.values,
             output: c,
+            ..before
         };
     }
     before
 }
 
-// A cell of the array that a letter names.
-pub fn cell_u32(array: &mut [u32], letter: u8, line: Line)
-    ensures { array.new ≡ cell letter line (line.c % 4294967296) array.old }
+// A number in a cell of the array that a letter names.
+#[tactic(auto, unfolding(crate::specs::Bends::cell), using(std::proofs::lemmas::Bool::Decides::nat_tests))]
+pub fn cell<T: Copy>(array: &mut [T], letter: u8, line: Line, x: T)
+    ensures { array.new ≡ cell letter line x array.old }
 {
-    if line.op != letter {
-        return;
-    }
     let i = line.b as usize;
-    if array.len() <= i {
-        return;
+    if line.op == letter && i < array.len() {
+        array[i] = x;
     }
-    array[i] = narrow(line.c);
-}
-
-pub fn cell_u64(array: &mut [u64], letter: u8, line: Line)
-    ensures { array.new ≡ cell letter line line.c array.old }
-{
-    if line.op != letter {
-        return;
-    }
-    let i = line.b as usize;
-    if array.len() <= i {
-        return;
-    }
-    array[i] = line.c;
 }
 
 // A cell of the four arrays of a table.
@@ -131,13 +109,14 @@ pub fn cells(
     ensures keys_after { keys.new ≡ cell 75 line line.c keys.old }
     ensures values_after { values.new ≡ cell 88 line line.c values.old }
 {
-    cell_u32(versions, b'V', line);
-    cell_u32(links, b'U', line);
-    cell_u64(keys, b'K', line);
-    cell_u64(values, b'X', line);
+    cell(versions, b'V', line, narrow(line.c));
+    cell(links, b'U', line, narrow(line.c));
+    cell(keys, b'K', line, line.c);
+    cell(values, b'X', line, line.c);
 }
 
 // The header of a table after a line.
+#[tactic(auto, unfolding(crate::specs::Bends::headed_by), using(std::proofs::lemmas::Bool::Decides::nat_tests))]
 pub fn header(h: Header, line: Line) -> Header
     ensures { result ≡ headed_by h line }
 {

@@ -34,10 +34,8 @@ pub fn write_image(image: &[u8], out: &mut [u8]) -> usize
     ensures { page result out.new ≡ wrote_all (page 0 out.old) (hex_line image.now) }
 {
     let mut place = 0;
-    let mut i = 0;
-    while i < image.len() {
-        place = pieces::hex(image[i], place, out);
-        i += 1;
+    for b in image {
+        place = pieces::hex(*b, place, out);
     }
     pieces::bytes(b"\n", place, out)
 }

@@ -18,7 +18,7 @@ const INPUT: usize = 1_500_000;
 
 const ROOM: usize = 4100;
 
-fn tell(answer: Answer) {
+fn tell(answer: Option<Answer>) {
     let mut text = [0u8; 80];
     let n = replay_lines::write_answer(answer, &[], &mut text);
     io::write_all(STDOUT_FILENO, lines::first(&text, n));
@@ -32,30 +32,25 @@ fn run(input: &[u8]) {
     let mut values = [0x5a5a_5a5a_5a5a_5a5au64; ROOM];
     let mut h = Header { n: 0, s: 0, f: 0 };
     let mut lent = Lent::none();
-    let mut at = 0;
-    while at < input.len() {
-        let line = replay_input::line_at(input, at);
+    for text in input.split_inclusive(|b| *b == b'\n') {
+        let line = replay_input::line_at(text, 0);
         lent = replay_bend::lend(lent, line);
         replay_bend::cells(&mut versions, &mut links, &mut keys, &mut values, line);
         let a = least(lent.versions, ROOM);
         let b = least(lent.links, ROOM);
         let k = least(lent.keys, ROOM);
         let v = least(lent.values, ROOM);
-        let made = calls::call(
+        let (g, answer) = calls::call(
             replay_bend::header(h, line),
             &mut versions[..a],
             &mut links[..b],
             &mut keys[..k],
             &mut values[..v],
-            input,
-            at,
+            text,
             line,
         );
-        let answer = made.answer;
-        let g = made.header;
         h = g;
         tell(answer);
-        at = lines::line_end(input, at);
     }
 }
 

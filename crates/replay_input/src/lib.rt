@@ -12,10 +12,8 @@ fn parse(text: &[u8]) -> Line
     ensures { result ≡ said text.now }
 {
     let mut line = Line::new();
-    let mut i = 0;
-    while i < text.len() {
-        line = line.take(text[i]);
-        i += 1;
+    for b in text {
+        line = line.take(*b);
     }
     line
 }
@@ -28,6 +26,7 @@ pub fn line_at(input: &[u8], at: usize) -> Line
 }
 
 // The value of a hexadecimal digit.
+#[tactic(auto, unfolding(crate::specs::Input::nibble_of), using(std::proofs::lemmas::Bool::Decides::nat_tests))]
 fn nibble(digit: u8) -> u8
     ensures value { result ≡ nibble_of digit }
     ensures upper_bound { result < 16 }
@@ -57,10 +56,10 @@ fn spell(line: &[u8], out: &mut [u8]) -> usize
     ensures { page result out.new ≡ wrote_all (page 0 out.old) (spelled (drop 1 line.now)) }
 {
     let mut place = 0;
-    let mut i = 0;
-    while 2 < line.len() - i {
-        place = put(byte(line[i + 1], line[i + 2]), place, out);
-        i += 2;
+    let mut digits = line.get(1..).unwrap_or(&[]);
+    while let [x, y, rest @ ..] = digits {
+        place = put(byte(*x, *y), place, out);
+        digits = rest;
     }
     place
 }

@@ -1,15 +1,11 @@
 -- The text of an answer in a replay's output, piece by piece. Bytes are ASCII. Assumes nothing.
-use Rattle.std.specs.Prelude.{ℕ, ◌/◌, ◌%◌, Bool, true, cond, List, [], ◌∷◌, ◌++◌, take, eqb}
+use Rattle.std.specs.Prelude.{ℕ, ◌/◌, ◌%◌, cond, Option, None, Some, List, [], ◌∷◌, ◌++◌, take}
 use Rattle.text.specs.Text.{decimal}
 use Rattle.pieces.specs.Pieces.{space, newline}
 use Rattle.lines.specs.Lines.{row}
 use Rattle.replay_hex.specs.Hex.{hex64}
 use Rattle.answers.specs.declared.Answer.{Answer}
-use Rattle.answers.specs.Kinds.{REFUSED, NUMBER, KEY, PAIR, STEP, PLACES, DIGEST, COUNTS, KEPT, IGNORED, REPLACED, TRUTH}
-
--- what has no line
-abbrev pub NO_LINE : ℕ
-NO_LINE = 255
+use Rattle.answers.specs.declared.Answer.TheVariants.{Refused, Number, Key, Pair, Step, Places, Digest, Counts, Kept, Ignored, Replaced, Truth}
 
 -- `-`, `.`, `v`
 abbrev pub minus : List ℕ
@@ -25,35 +21,27 @@ letter_v = 118 ∷ []
 abbrev pub key : ℕ → List (List ℕ)
 key k = decimal (k % 4294967296) ∷ letter_v ∷ decimal (k / 4294967296) ∷ []
 
--- a key; a key and its value; an element and the place to go on from
-unfoldable pub element : Answer → List (List ℕ)
-element a =
-    cond (eqb a.kind KEY) (key a.a)
-    (cond (eqb a.kind PAIR) (key a.a ++ (space ∷ decimal a.b ∷ []))
-    (key a.a ++ (space ∷ decimal a.b ∷ space ∷ decimal a.c ∷ [])))
+-- a key and its value
+abbrev pub pair : ℕ → ℕ → List (List ℕ)
+pair k x = key k ++ (space ∷ decimal x ∷ [])
 
--- the kinds that one number tells, and those that begin with a key
-unfoldable pub is_number : ℕ → Bool
-is_number k = cond (eqb k NUMBER) true (cond (eqb k TRUTH) true (eqb k REPLACED))
+-- an answer but for its places and its newline; one that has only its kind to tell has a mark, `k`, `i`, or a dot
+abbrev pub text_of : Answer → List (List ℕ)
+text_of (Refused r) = minus ∷ decimal r ∷ []
+text_of (Number x) = decimal x ∷ []
+text_of (Replaced x) = decimal x ∷ []
+text_of (Truth b) = decimal (cond b 1 0) ∷ []
+text_of (Digest d) = hex64 d
+text_of (Counts a b) = decimal a ∷ space ∷ decimal b ∷ []
+text_of (Key k) = key k
+text_of (Pair k x) = pair k x
+text_of (Step k x q) = pair k x ++ (space ∷ decimal q ∷ [])
+text_of Kept = (107 ∷ []) ∷ []
+text_of Ignored = (105 ∷ []) ∷ []
+text_of _ = dot ∷ []
 
-unfoldable pub is_keyed : ℕ → Bool
-is_keyed k = cond (eqb k KEY) true (cond (eqb k PAIR) true (eqb k STEP))
-
--- `k`, `i`; a call that is done has a dot
-unfoldable pub mark_of : ℕ → ℕ
-mark_of k = cond (eqb k KEPT) 107 (cond (eqb k IGNORED) 105 46)
-
--- an answer but for its places and its newline
-unfoldable pub text_of : Answer → List (List ℕ)
-text_of a =
-    cond (eqb a.kind REFUSED) (minus ∷ decimal a.a ∷ [])
-    (cond (is_number a.kind) (decimal a.a ∷ [])
-    (cond (eqb a.kind DIGEST) (hex64 a.a)
-    (cond (eqb a.kind COUNTS) (decimal a.a ∷ space ∷ decimal a.b ∷ [])
-    (cond (is_keyed a.kind) (element a) ((mark_of a.kind ∷ []) ∷ [])))))
-
--- the line of an answer, whose places are the first of a list
-unfoldable pub line_of : Answer → List ℕ → List (List ℕ)
-line_of a places =
-    cond (eqb a.kind NO_LINE) []
-    (cond (eqb a.kind PLACES) (dot ∷ row decimal (take a.a places)) (text_of a ++ (newline ∷ [])))
+-- the line of an answer, whose places are the first of a list; where nothing is answered there is none
+abbrev pub line_of : Option Answer → List ℕ → List (List ℕ)
+line_of None places = []
+line_of (Some (Places m)) places = dot ∷ row decimal (take m places)
+line_of (Some a) places = text_of a ++ (newline ∷ [])

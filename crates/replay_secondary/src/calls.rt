@@ -1,24 +1,25 @@
 // The calls on a secondary map, each answered for the list. The arrays are the parts that the map has.
-use answers::{Answer, DIGEST};
+use answers::{Answer, Made};
 use map::MapHeader;
 use map_answers::{counted, slotted, stepped, tested, value};
-use map_made::{Made, begun, clear, disjoint, drain_step, insert, put, remove, retain};
+use map_made::{begun, clear, disjoint, drain_step, insert, put, remove, retain};
 use replay::{Line, narrow};
-use replay_lines::NO_LINE;
-
-fn bit(yes: bool) -> u64 {
-    if yes { 1 } else { 0 }
-}
+use secondary::MapView;
 
 // Everything that a map holds, in one number: whether it is whole, the header, the arrays to their ends, and the output.
-fn state(h: MapHeader, versions: &[u32], values: &[u64], places: &[u32]) -> u64 {
-    let whole = bit(secondary_whole::is_whole(h, versions, values));
+fn state(view: MapView, places: &[u32]) -> u64 {
+    let MapView {
+        h,
+        versions,
+        values,
+    } = view;
+    let whole = u64::from(secondary_whole::is_whole(view));
     let header = replay::mix(
-        replay::mix(replay::mix(0, whole), h.s as u64),
-        h.count as u64,
+        replay::mix(replay::mix(0, whole), u64::from(h.s)),
+        u64::from(h.count),
     );
-    let slots = replay::mix_u64(replay::mix_u32(header, versions), values);
-    replay::mix_u32(slots, places)
+    let slots = replay::mix_all(replay::mix_all(header, versions), values);
+    replay::mix_all(slots, places)
 }
 
 // The header after a line that may bend it.
@@ -33,50 +34,39 @@ pub(crate) fn header(h: MapHeader, line: Line) -> MapHeader {
 }
 
 // The calls that look at a key, or at the map. Any other letter is no call.
-fn look(h: MapHeader, versions: &[u32], values: &[u64], places: &[u32], line: Line) -> Answer {
-    let op = line.op;
-    if op == b'g' {
-        return value(secondary_look::lookup(h, versions, values, line.key()));
-    }
-    if op == b'c' {
-        return tested(secondary_look::contains_key(h, versions, values, line.key()));
-    }
-    if op == b'o' {
-        return slotted(secondary_look::slot(h, versions, values, line.key()));
-    }
-    if op == b'l' {
-        return counted(secondary::len(h, versions, values));
-    }
-    if op == b'f' {
-        return tested(secondary::is_empty(h, versions, values));
-    }
-    if op == b'y' {
-        return stepped(secondary_peek::peek(h, versions, values, narrow(line.c)));
-    }
-    if op == b's' {
-        return Answer::of(DIGEST, state(h, versions, values, places));
-    }
-    Answer::of(NO_LINE, 0)
-}
-
-// Whether a letter names a call that may write versions alone.
-fn changes(op: u8) -> bool {
-    match op {
-        b'L' | b'r' | b'z' | b'e' | b'v' | b'm' | b'x' => true,
-        _ => false,
+fn look(view: MapView, places: &[u32], line: Line) -> Option<Answer> {
+    let k = line.key();
+    match line.op {
+        b'g' => Some(value(secondary_look::lookup(view, k))),
+        b'c' => Some(tested(secondary_look::contains_key(view, k))),
+        b'o' => Some(slotted(secondary_look::slot(view, k))),
+        b'l' => Some(counted(secondary::len(view))),
+        b'f' => Some(tested(secondary::is_empty(view))),
+        b'y' => Some(stepped(secondary_peek::peek(view, narrow(line.c)))),
+        b's' => Some(Answer::Digest(state(view, places))),
+        _ => None,
     }
 }
 
 // The calls that may write versions alone: fresh, a remove, a step of a drain, a clear, a retain. A key is the last two numbers of a line.
-fn change(h: MapHeader, versions: &mut [u32], values: &[u64], line: Line) -> Made {
-    let op = line.op;
-    match op {
-        b'L' => begun(h, secondary_put::fresh(versions, values)),
-        b'r' => remove(h, versions, values, line.key()),
-        b'z' => drain_step(h, versions, values, narrow(line.c)),
-        b'e' => clear(h, versions, values),
-        _ => retain(h, versions, values, line.rule()),
+fn change(
+    h: MapHeader,
+    versions: &mut [u32],
+    values: &[u64],
+    line: Line,
+) -> Option<Made<MapHeader>> {
+    match line.op {
+        b'L' => Some(begun(h, secondary_put::fresh(versions, values))),
+        b'r' => Some(remove(h, versions, values, line.key())),
+        b'z' => Some(drain_step(h, versions, values, narrow(line.c))),
+        b'e' => Some(clear(h, versions, values)),
+        b'v' | b'm' | b'x' => Some(retain(h, versions, values, line.rule())),
+        _ => None,
     }
+}
+
+fn told(made: Made<MapHeader>) -> (MapHeader, Option<Answer>) {
+    (made.header, Some(made.answer))
 }
 
 // The calls that write no value.
@@ -87,24 +77,29 @@ fn keep(
     places: &mut [u32],
     wanted: &[u64],
     line: Line,
-) -> Made {
-    let op = line.op;
-    if changes(op) {
-        return change(h, versions, values, line);
+) -> (MapHeader, Option<Answer>) {
+    if let Some(made) = change(h, versions, values, line) {
+        return told(made);
     }
-    if op == b'j' {
-        return Made {
-            header: h,
-            answer: disjoint(h, versions, values, wanted, places),
-        };
+    if line.op == b'j' {
+        return (h, Some(disjoint(h, versions, values, wanted, places)));
     }
-    Made {
-        header: h,
-        answer: look(h, versions, values, places, line),
-    }
+    (
+        h,
+        look(
+            MapView {
+                h,
+                versions,
+                values,
+            },
+            places,
+            line,
+        ),
+    )
 }
 
-// Makes the call of a line. The key of a put or an insert stands before the value.
+// Makes the call of a line: the header after it, and the answer, which a line that is no call has not. The key of a put or an insert stands before
+// the value.
 pub(crate) fn call(
     h: MapHeader,
     versions: &mut [u32],
@@ -112,14 +107,11 @@ pub(crate) fn call(
     places: &mut [u32],
     wanted: &[u64],
     line: Line,
-) -> Made {
-    let op = line.op;
+) -> (MapHeader, Option<Answer>) {
     let key = line.key_of_value();
-    if op == b'i' {
-        return insert(h, versions, values, key, line.c);
+    match line.op {
+        b'i' => told(insert(h, versions, values, key, line.c)),
+        b'p' => told(put(h, versions, values, key, line.c)),
+        _ => keep(h, versions, values, places, wanted, line),
     }
-    if op == b'p' {
-        return put(h, versions, values, key, line.c);
-    }
-    keep(h, versions, values, places, wanted, line)
 }

@@ -5,7 +5,7 @@ mod calls;
 
 use answers::Answer;
 use map::MapHeader;
-use replay::least;
+use replay::{least, narrow};
 use replay_bend::Lent;
 
 // The file descriptors of standard input and of standard output.
@@ -20,7 +20,7 @@ const ROOM: usize = 4100;
 
 const PLACES: usize = 8;
 
-fn tell(answer: Answer, places: &[u32; PLACES]) {
+fn tell(answer: Option<Answer>, places: &[u32; PLACES]) {
     let mut text = [0u8; 200];
     let n = replay_lines::write_answer(answer, places, &mut text);
     io::write_all(STDOUT_FILENO, lines::first(&text, n));
@@ -35,17 +35,16 @@ fn run(input: &[u8]) {
     let mut count = 0;
     let mut h = MapHeader { s: 0, count: 0 };
     let mut lent = Lent::none();
-    let mut at = 0;
-    while at < input.len() {
-        let line = replay_input::line_at(input, at);
+    for text in input.split_inclusive(|b| *b == b'\n') {
+        let line = replay_input::line_at(text, 0);
         lent = replay_bend::lend(lent, line);
-        replay_bend::cell_u32(&mut versions, b'V', line);
-        replay_bend::cell_u64(&mut values, b'X', line);
+        replay_bend::cell(&mut versions, b'V', line, narrow(line.c));
+        replay_bend::cell(&mut values, b'X', line, line.c);
         let a = least(lent.versions, ROOM);
         let v = least(lent.values, ROOM);
         let o = least(lent.output, PLACES);
         let w = least(count, PLACES);
-        let made = calls::call(
+        let (g, answer) = calls::call(
             calls::header(h, line),
             &mut versions[..a],
             &mut values[..v],
@@ -53,12 +52,9 @@ fn run(input: &[u8]) {
             &wanted[..w],
             line,
         );
-        let answer = made.answer;
-        let g = made.header;
         h = g;
         tell(answer, &places);
         count = replay_bend::ask(&mut wanted, count, line);
-        at = lines::line_end(input, at);
     }
 }
 

@@ -1,10 +1,10 @@
 // The calls on a table, each answered for the list. The arrays are the parts that the table has.
-use answers::{Answer, DIGEST};
-use made::{Made, begun};
+use answers::{Answer, Made};
+use dense::View;
+use made::begun;
 use made_call::{Call, make};
 use made_sweep::{disjoint, drain_step_by};
 use replay::Line;
-use replay_lines::NO_LINE;
 use replay_state::state;
 use table::Header;
 
@@ -18,36 +18,39 @@ fn look(
     places: &mut [u32],
     wanted: &[u64],
     op: u8,
-) -> Answer {
-    if op == b'j' {
-        return disjoint(h, versions, links, keys, values, wanted, places);
+) -> Option<Answer> {
+    match op {
+        b'j' => Some(disjoint(h, versions, links, keys, values, wanted, places)),
+        b's' => {
+            let table = state(View {
+                h,
+                versions,
+                links,
+                keys,
+                values,
+            });
+            Some(Answer::Digest(replay::mix_all(table, places)))
+        }
+        _ => None,
     }
-    if op == b's' {
-        let table = state(h, versions, links, keys, values);
-        return Answer::of(DIGEST, replay::mix_u32(table, places));
-    }
-    Answer::of(NO_LINE, 0)
-}
-
-fn changes(op: u8) -> bool {
-    op == b'i' || op == b'z' || op == b'e' || op == b'v' || op == b'm' || op == b'x'
 }
 
 // The call that may change the table: an insert, a step of a drain, a clear, or a retain by one of three rules.
-fn change(line: Line) -> Call {
-    if line.op == b'i' {
-        return Call::Insert(line.c);
+fn change(line: Line) -> Option<Call> {
+    match line.op {
+        b'i' => Some(Call::Insert(line.c)),
+        b'z' => Some(Call::Drain),
+        b'e' => Some(Call::Clear),
+        b'v' | b'm' | b'x' => Some(Call::Retain(line.rule())),
+        _ => None,
     }
-    if line.op == b'z' {
-        return Call::Drain;
-    }
-    if line.op == b'e' {
-        return Call::Clear;
-    }
-    Call::Retain(line.rule())
 }
 
-// Makes the call of a line.
+fn told(made: Made<Header>) -> (Header, Option<Answer>) {
+    (made.header, Some(made.answer))
+}
+
+// Makes the call of a line: the header after it, and the answer, which a line that is no call has not.
 pub(crate) fn call(
     h: Header,
     versions: &mut [u32],
@@ -57,19 +60,18 @@ pub(crate) fn call(
     places: &mut [u32],
     wanted: &[u64],
     line: Line,
-) -> Made {
-    let op = line.op;
-    if op == b'C' {
-        return begun(h, dense::fresh(versions, links, keys, values));
+) -> (Header, Option<Answer>) {
+    if line.op == b'C' {
+        return told(begun(h, dense::fresh(versions, links, keys, values)));
     }
-    if op == b'y' {
-        return drain_step_by(h, versions, links, keys, values);
+    if line.op == b'y' {
+        return told(drain_step_by(h, versions, links, keys, values));
     }
-    if changes(op) {
-        return make(h, versions, links, keys, values, change(line));
+    if let Some(call) = change(line) {
+        return told(make(h, versions, links, keys, values, call));
     }
-    Made {
-        header: h,
-        answer: look(h, versions, links, keys, values, places, wanted, op),
-    }
+    (
+        h,
+        look(h, versions, links, keys, values, places, wanted, line.op),
+    )
 }

@@ -20,7 +20,7 @@ const ROOM: usize = 4100;
 
 const PLACES: usize = 8;
 
-fn tell(answer: Answer, places: &[u32; PLACES]) {
+fn tell(answer: Option<Answer>, places: &[u32; PLACES]) {
     let mut text = [0u8; 200];
     let n = replay_lines::write_answer(answer, places, &mut text);
     io::write_all(STDOUT_FILENO, lines::first(&text, n));
@@ -37,9 +37,8 @@ fn run(input: &[u8]) {
     let mut count = 0;
     let mut h = Header { n: 0, s: 0, f: 0 };
     let mut lent = Lent::none();
-    let mut at = 0;
-    while at < input.len() {
-        let line = replay_input::line_at(input, at);
+    for text in input.split_inclusive(|b| *b == b'\n') {
+        let line = replay_input::line_at(text, 0);
         lent = replay_bend::lend(lent, line);
         replay_bend::cells(&mut versions, &mut links, &mut keys, &mut values, line);
         let a = least(lent.versions, ROOM);
@@ -48,7 +47,7 @@ fn run(input: &[u8]) {
         let v = least(lent.values, ROOM);
         let o = least(lent.output, PLACES);
         let w = least(count, PLACES);
-        let made = calls::call(
+        let (g, answer) = calls::call(
             replay_bend::header(h, line),
             &mut versions[..a],
             &mut links[..b],
@@ -58,12 +57,9 @@ fn run(input: &[u8]) {
             &wanted[..w],
             line,
         );
-        let answer = made.answer;
-        let g = made.header;
         h = g;
         tell(answer, &places);
         count = replay_bend::ask(&mut wanted, count, line);
-        at = lines::line_end(input, at);
     }
 }
 

@@ -1,88 +1,57 @@
 // The calls on a table and its image, each answered for the list. The arrays are the parts that the table has.
-use answers::{Answer, DIGEST, WRITTEN};
-use made::{Made, begun};
+use answers::{Answer, Made};
+use dense::View;
+use made::begun;
 use made_call::{Call, make};
 use replay::Line;
-use replay_lines::NO_LINE;
 use replay_state::state;
 use table::Header;
-use writing::Written;
 
 // Room for an image.
 pub(crate) const IMAGE: usize = 65_600;
 
-fn length(h: Header, versions: &[u32], links: &[u32], keys: &[u64], values: &[u64]) -> Answer {
-    image_answers::length(image_write::image_len(h, versions, links, keys, values))
+// How long the image is that was written.
+fn written(view: View, out: &mut [u8]) -> Answer {
+    image_write::write_image(view, out).map_or_else(Answer::refused, Answer::Written)
 }
 
-// An image that was written: how long it is, or its length and the whole buffer in one number.
-fn shown(out: &[u8], count: usize, digest: bool) -> Answer {
-    if digest {
-        return Answer::of(DIGEST, replay::mix_u8(replay::mix(0, count as u64), out));
-    }
-    Answer::of(WRITTEN, count as u64)
-}
-
-// The image written into a buffer.
-fn write(
-    h: Header,
-    versions: &[u32],
-    links: &[u32],
-    keys: &[u64],
-    values: &[u64],
-    out: &mut [u8],
-    digest: bool,
-) -> Answer {
-    let written = image_write::write_image(h, versions, links, keys, values, out);
-    match written {
-        Written::End(count) => shown(out, count, digest),
-        Written::Refused(why) => Answer::refused(why),
+// The length of the image that was written and the whole buffer, in one number.
+fn digest(view: View, out: &mut [u8]) -> Answer {
+    match image_write::write_image(view, out) {
+        Ok(count) => Answer::Digest(replay::mix_all(replay::mix(0, count as u64), out)),
+        Err(why) => Answer::refused(why),
     }
 }
 
 // The calls that look at the table, or write its image. Any other letter is no call.
-fn look(
-    h: Header,
-    versions: &[u32],
-    links: &[u32],
-    keys: &[u64],
-    values: &[u64],
-    out: &mut [u8],
-    op: u8,
-) -> Answer {
-    if op == b's' {
-        return Answer::of(DIGEST, state(h, versions, links, keys, values));
+fn look(view: View, out: &mut [u8], op: u8) -> Option<Answer> {
+    match op {
+        b's' => Some(Answer::Digest(state(view))),
+        b'N' => Some(image_answers::length(image_write::image_len(view))),
+        b'W' => Some(written(view, out)),
+        b'D' => Some(digest(view, out)),
+        _ => None,
     }
-    if op == b'N' {
-        return length(h, versions, links, keys, values);
-    }
-    if op == b'W' || op == b'D' {
-        return write(h, versions, links, keys, values, out, op == b'D');
-    }
-    Answer::of(NO_LINE, 0)
-}
-
-fn changes(op: u8) -> bool {
-    op == b'i' || op == b'r' || op == b'd' || op == b'a'
 }
 
 // The call that may change the table: an insert, a remove, a detach or a reattach. A key is the last two numbers, or the two before the value.
-fn change(line: Line) -> Call {
-    if line.op == b'i' {
-        return Call::Insert(line.c);
-    }
-    if line.op == b'r' {
-        return Call::Remove(line.key());
-    }
-    if line.op == b'd' {
-        return Call::Detach(line.key());
-    }
+fn change(line: Line) -> Option<Call> {
     let key = line.key_of_value();
     let value = line.c;
-    Call::Reattach { key, value }
+    match line.op {
+        b'i' => Some(Call::Insert(value)),
+        b'r' => Some(Call::Remove(line.key())),
+        b'd' => Some(Call::Detach(line.key())),
+        b'a' => Some(Call::Reattach { key, value }),
+        _ => None,
+    }
 }
 
-// Makes the call of a line.
+fn told(made: Made<Header>) -> (Header, Option<Answer>) {
+    (made.header, Some(made.answer))
+}
+
+// Makes the call of a line: the header after it, and the answer, which a line that is no call has not.
 pub(crate) fn call(
     h: Header,
     versions: &mut [u32],
@@ -91,16 +60,25 @@ pub(crate) fn call(
     values: &mut [u64],
     out: &mut [u8],
     line: Line,
-) -> Made {
-    let op = line.op;
-    if op == b'C' {
-        return begun(h, dense::fresh(versions, links, keys, values));
+) -> (Header, Option<Answer>) {
+    if line.op == b'C' {
+        return told(begun(h, dense::fresh(versions, links, keys, values)));
     }
-    if changes(op) {
-        return make(h, versions, links, keys, values, change(line));
+    if let Some(call) = change(line) {
+        return told(make(h, versions, links, keys, values, call));
     }
-    Made {
-        header: h,
-        answer: look(h, versions, links, keys, values, out, op),
-    }
+    (
+        h,
+        look(
+            View {
+                h,
+                versions,
+                links,
+                keys,
+                values,
+            },
+            out,
+            line.op,
+        ),
+    )
 }

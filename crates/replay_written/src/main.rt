@@ -3,7 +3,7 @@
 
 mod calls;
 
-use answers::{Answer, WRITTEN};
+use answers::Answer;
 use calls::IMAGE;
 use replay::least;
 use replay_bend::Lent;
@@ -20,14 +20,14 @@ const INPUT: usize = 1_500_000;
 const ROOM: usize = 4100;
 
 // The text of an answer, or of the image that was written.
-fn told(answer: Answer, out: &[u8], text: &mut [u8]) -> usize {
-    if answer.kind == WRITTEN {
-        return replay_hex::write_image(lines::first(out, answer.a as usize), text);
+fn told(answer: Option<Answer>, out: &[u8], text: &mut [u8]) -> usize {
+    match answer {
+        Some(Answer::Written(count)) => replay_hex::write_image(lines::first(out, count), text),
+        _ => replay_lines::write_answer(answer, &[], text),
     }
-    replay_lines::write_answer(answer, &[], text)
 }
 
-fn tell(answer: Answer, out: &[u8; IMAGE]) {
+fn tell(answer: Option<Answer>, out: &[u8; IMAGE]) {
     let mut text = [0u8; 1000];
     let n = told(answer, out, &mut text);
     io::write_all(STDOUT_FILENO, lines::first(&text, n));
@@ -42,9 +42,8 @@ fn run(input: &[u8]) {
     let mut out = [0x5au8; IMAGE];
     let mut h = Header { n: 0, s: 0, f: 0 };
     let mut lent = Lent::none();
-    let mut at = 0;
-    while at < input.len() {
-        let line = replay_input::line_at(input, at);
+    for text in input.split_inclusive(|b| *b == b'\n') {
+        let line = replay_input::line_at(text, 0);
         lent = replay_bend::lend(lent, line);
         replay_bend::cells(&mut versions, &mut links, &mut keys, &mut values, line);
         let a = least(lent.versions, ROOM);
@@ -52,7 +51,7 @@ fn run(input: &[u8]) {
         let k = least(lent.keys, ROOM);
         let v = least(lent.values, ROOM);
         let o = least(line.c as usize, IMAGE);
-        let made = calls::call(
+        let (g, answer) = calls::call(
             replay_bend::header(h, line),
             &mut versions[..a],
             &mut links[..b],
@@ -61,11 +60,8 @@ fn run(input: &[u8]) {
             &mut out[..o],
             line,
         );
-        let answer = made.answer;
-        let g = made.header;
         h = g;
         tell(answer, &out);
-        at = lines::line_end(input, at);
     }
 }
 

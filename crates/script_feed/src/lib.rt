@@ -13,7 +13,6 @@ use refusal::Refusal;
 use script::run_line;
 use script_ready::{HELD, ready};
 use table::Header;
-use writing::Written;
 
 const NEWLINE: u8 = b'\n';
 
@@ -22,7 +21,7 @@ const NEWLINE: u8 = b'\n';
 pub struct Fed {
     pub header: Header,
     pub count: usize,
-    pub end: Written,
+    pub end: Result<usize, Refusal>,
 }
 
 // The same where there is room.
@@ -34,13 +33,10 @@ struct Step {
 }
 
 // The place where a text ended; 0 of a refusal, which no line gets that has its room.
-fn end_of(w: Written) -> usize
-    ensures { result ≡ end_of (told_of w) }
+fn end_of(end: Result<usize, Refusal>) -> usize
+    ensures { result ≡ end_of (told_of end) }
 {
-    match w {
-        Written::End(n) => n,
-        Written::Refused(_) => 0,
-    }
+    end.unwrap_or(0)
 }
 
 // Runs the line that is held.
@@ -59,12 +55,10 @@ fn close(
     ensures { (step_of result.end (machine (table versions.new links.new keys.new values.new result.header) result.count line.now out.new) ≡ closed (machine (table versions.old links.old keys.old values.old h) count line.now out.old) at) × (result.end ≤ at + room) }
 {
     let ran = run_line(h, versions, links, keys, values, &line[..count], at, out);
-    let g = ran.header;
-    let end = ran.end;
     Step {
-        header: g,
+        header: ran.header,
         count: 0,
-        end: end_of(end),
+        end: end_of(ran.answer),
     }
 }
 
@@ -121,24 +115,22 @@ pub fn feed(
         return Fed {
             header: h,
             count,
-            end: Written::Refused(Refusal::Short),
+            end: Err(Refusal::Short),
         };
     }
     let mut g = h;
     let mut n = count;
     let mut end = 0;
-    let mut i = 0;
-    while i < part.len() {
-        let step = take_byte(g, versions, links, keys, values, n, line, part[i], end, out);
+    for b in part {
+        let step = take_byte(g, versions, links, keys, values, n, line, *b, end, out);
         g = step.header;
         n = step.count;
         end = step.end;
-        i += 1;
     }
     Fed {
         header: g,
         count: n,
-        end: Written::End(end),
+        end: Ok(end),
     }
 }
 
@@ -160,21 +152,20 @@ pub fn finish(
         return Fed {
             header: h,
             count,
-            end: Written::Refused(Refusal::Short),
+            end: Err(Refusal::Short),
         };
     }
     if count == 0 {
         return Fed {
             header: h,
             count,
-            end: Written::End(0),
+            end: Ok(0),
         };
     }
     let step = close(h, versions, links, keys, values, count, line, 0, out);
-    let g = step.header;
     Fed {
-        header: g,
+        header: step.header,
         count: step.count,
-        end: Written::End(step.end),
+        end: Ok(step.end),
     }
 }

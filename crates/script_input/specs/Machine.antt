@@ -1,7 +1,7 @@
 -- The machine that reads an input part by part: a table, the line that has begun, and the output. Assumes nothing.
-use Rattle.std.specs.Prelude.{ℕ, ◌+◌, ◌*◌, Bool, true, cond, ◌&&◌, List, [], ◌∷◌, ◌++◌, length, take, set, leb, ltb, eqb}
+use Rattle.std.specs.Prelude.{Result, ℕ, ◌+◌, ◌*◌, Bool, true, cond, ◌&&◌, List, [], ◌∷◌, ◌++◌, length, take, set, leb, ltb, eqb}
 use Rattle.lists.specs.Put.{put}
-use Rattle.writing.specs.declared.Written.{Written}
+use Rattle.refusal.specs.declared.Refusal.{Refusal}
 use Rattle.writing.specs.Told.{Told, tells, refused}
 use Rattle.writing.specs.Writing.{told_of}
 use Rattle.table.specs.Table.{Table}
@@ -70,7 +70,7 @@ is_ready m n = is_ready_for m.count (length m.line) n (length m.out)
 abbrev pub Fed : Type 0
 Fed = Told ℕ × Machine
 
-abbrev pub fed_of : Written → Machine → Fed
+abbrev pub fed_of : Result ℕ Refusal → Machine → Fed
 fed_of w m = (told_of w, m)
 
 abbrev pub ending : Step → Fed

@@ -1,7 +1,7 @@
 -- A line of a script run on a table, its answer in a lent buffer (the rules, section "Script"). Assumes nothing.
-use Rattle.std.specs.Prelude.{ℕ, ◌+◌, cond, List, length, leb}
+use Rattle.std.specs.Prelude.{Result, ℕ, ◌+◌, cond, List, length, leb}
 use Rattle.lists.specs.Put.{put}
-use Rattle.writing.specs.declared.Written.{Written}
+use Rattle.refusal.specs.declared.Refusal.{Refusal}
 use Rattle.writing.specs.Told.{Told, tells}
 use Rattle.writing.specs.Writing.{told_of}
 use Rattle.writing.specs.Told as told
@@ -24,7 +24,7 @@ end_of (told.refused r) = 0
 abbrev pub Run : Type 0
 Run = Told ℕ × (Table × List ℕ)
 
-abbrev pub ran_of : Written → Table → List ℕ → Run
+abbrev pub ran_of : Result ℕ Refusal → Table → List ℕ → Run
 ran_of w t b = (told_of w, (t, b))
 
 -- the answer o, printed into the buffer b from a place on

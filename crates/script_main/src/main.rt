@@ -4,14 +4,14 @@
 
 ghost use Rattle.std.specs.Prelude.{◌≤◌, length, IfSome};
 
-use dense::{Started, fresh};
+use dense::fresh;
+use refusal::Refusal;
 use script::CAPACITY;
 use script_feed::{feed, finish};
 use script_ready::HELD;
 use script_say::ROOM;
 use std::io::Read;
 use table::Header;
-use writing::Written;
 
 // The file descriptors of standard output and of standard error.
 const STDOUT_FILENO: i32 = 1;
@@ -25,33 +25,32 @@ const PART: usize = 4096;
 
 const OUTPUT: usize = PART * ROOM;
 
-// What goes from read to read, and whether to go on.
+// What goes from read to read: the header, and how many bytes of the next line are held.
 #[derive(Clone, Copy)]
-struct Now {
+struct Held {
     header: Header,
     count: usize,
-    on: bool,
 }
 
-fn fail(text: &[u8]) -> bool {
+fn fail(text: &[u8]) {
     io::write_all(STDERR_FILENO, text);
-    false
 }
 
-// Writes the front of the output; false where that fails.
-fn print(end: Written, out: &[u8]) -> bool {
-    match end {
-        Written::End(n) => {
-            if out.len() < n {
-                return fail(b"script: the answers end past the output\n");
-            }
-            if io::write_all(STDOUT_FILENO, &out[..n]) {
-                return true;
-            }
-            fail(b"script: standard output cannot be written\n")
-        }
-        Written::Refused(_) => fail(b"script: the buffers are too short\n"),
+// Writes the front of the output; None where that fails.
+fn print(end: Result<usize, Refusal>, out: &[u8]) -> Option<()> {
+    let Ok(n) = end else {
+        fail(b"script: the buffers are too short\n");
+        return None;
+    };
+    if out.len() < n {
+        fail(b"script: the answers end past the output\n");
+        return None;
     }
+    if !io::write_all(STDOUT_FILENO, &out[..n]) {
+        fail(b"script: standard output cannot be written\n");
+        return None;
+    }
+    Some(())
 }
 
 // Reads once, as much as there is and fits; none where standard input cannot be read.
@@ -64,7 +63,7 @@ fn read_part(rt: &HostRuntime, buffer: &mut [u8]) -> Option<usize>
     }
 }
 
-// Reads once, and answers the lines that end there; at the end of the input, the last one.
+// Reads once, and answers the lines that end there; at the end of the input, the last one. None where nothing more is to be read.
 fn turn(
     rt: &HostRuntime,
     h: Header,
@@ -75,29 +74,16 @@ fn turn(
     count: usize,
     line: &mut [u8],
     out: &mut [u8],
-) -> Now {
+) -> Option<Held> {
     let mut buffer = [0u8; PART];
-    let n = match read_part(rt, &mut buffer) {
-        Some(n) => n,
-        None => {
-            let on = fail(b"script: standard input cannot be read\n");
-            return Now {
-                header: h,
-                count,
-                on,
-            };
-        }
+    let Some(n) = read_part(rt, &mut buffer) else {
+        fail(b"script: standard input cannot be read\n");
+        return None;
     };
     if n == 0 {
         let last = finish(h, versions, links, keys, values, count, line, out);
-        let g = last.header;
-        let end = last.end;
-        print(end, out);
-        return Now {
-            header: g,
-            count: 0,
-            on: false,
-        };
+        print(last.end, out);
+        return None;
     }
     let fed = feed(
         h,
@@ -110,13 +96,11 @@ fn turn(
         &buffer[..n],
         out,
     );
-    let g = fed.header;
-    let end = fed.end;
-    Now {
-        header: g,
+    print(fed.end, out)?;
+    Some(Held {
+        header: fed.header,
         count: fed.count,
-        on: print(end, out),
-    }
+    })
 }
 
 fn run(
@@ -129,17 +113,26 @@ fn run(
     line: &mut [u8],
     out: &mut [u8],
 ) {
-    let mut g = h;
-    let mut count = 0;
-    let mut turns = u64::MAX;
-    while turns > 0 {
-        let now = turn(rt, g, versions, links, keys, values, count, line, out);
-        g = now.header;
-        count = now.count;
-        if !now.on {
-            break;
+    let mut held = Held {
+        header: h,
+        count: 0,
+    };
+    for _ in 0..u64::MAX {
+        let next = turn(
+            rt,
+            held.header,
+            versions,
+            links,
+            keys,
+            values,
+            held.count,
+            line,
+            out,
+        );
+        match next {
+            Some(now) => held = now,
+            None => return,
         }
-        turns -= 1;
     }
 }
 
@@ -151,7 +144,7 @@ fn main(rt: HostRuntime) {
     let mut line = [0u8; HELD];
     let mut out = [0u8; OUTPUT];
     match fresh(&mut versions, &mut links, &keys, &values) {
-        Started::With(h) => run(
+        Ok(h) => run(
             &rt,
             h,
             &mut versions,
@@ -161,8 +154,6 @@ fn main(rt: HostRuntime) {
             &mut line,
             &mut out,
         ),
-        Started::Refused(_) => {
-            fail(b"script: the table cannot begin\n");
-        }
+        Err(_) => fail(b"script: the table cannot begin\n"),
     }
 }

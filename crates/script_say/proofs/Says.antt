@@ -12,9 +12,7 @@ use Rattle.refusal.specs.Refusals.{number_of}
 use Rattle.keys.specs.Keys.{W, idx, version, key_of, is_null}
 use Rattle.keys.specs.declared.KeyData.{KeyData}
 use Rattle.keys.proofs.Keys.{version_word}
-use Rattle.writing.specs.declared.Written.{Written}
-use Rattle.writing.specs.declared.Written.TheVariants.{End}
-use Rattle.writing.specs.declared.Written.TheVariants as written-variants
+use Rattle.std.specs.Prelude.{Result, Ok, Err}
 use Rattle.writing.specs.Told.{Told, tells, refused}
 use Rattle.writing.specs.Writing.{told_of, outcome, written, written_after}
 use Rattle.text.specs.Text.{decimal, key_text, ok_text, refused_text}
@@ -24,7 +22,7 @@ use Rattle.text.proofs.Keys.{key-text-null, key-text-length}
 use Rattle.table.specs.Calls.{Said, said_key, said_value, said_done, said_count}
 use Rattle.table.specs.Calls as calls
 use Rattle.script_look.specs.declared.Answer.{Answer}
-use Rattle.script_look.specs.declared.Answer.TheVariants.{Key, Value, Done, Count, Refused}
+use Rattle.script_look.specs.declared.Answer.TheVariants.{Key, Value, Done, Count}
 use Rattle.script_look.specs.Answers.{answer_said}
 use Rattle.script_say.specs.Says.{newline, answer_text, line_out, room, lined}
 
@@ -76,28 +74,28 @@ key_short k =
 
 -- ---- an answer's text, by its kind, and how long its line is
 
-module _ (at : ℕ) (b : List ℕ) {a : Answer} {o : Told ℕ × List ℕ} where
-  pub text-key : {k : ℕ} {key : KeyData} → a ≡ Key k → key ≡ key_of k → o ≡ written at (key_text key) b
+module _ (at : ℕ) (b : List ℕ) {a : Result Answer Refusal} {o : Told ℕ × List ℕ} where
+  pub text-key : {k : ℕ} {key : KeyData} → a ≡ Ok (Key k) → key ≡ key_of k → o ≡ written at (key_text key) b
       → (o ≡ written at (answer_text (answer_said a)) b) × (length (line_out (answer_said a)) ≤ room)
   unfolding answer_text
   text-key {k} e f g = rw e (rw f at g, key_short k)
 
-  pub text-value : {y : ℕ} → a ≡ Value y → y < 2 ^ 64 → o ≡ written at (decimal y) b
+  pub text-value : {y : ℕ} → a ≡ Ok (Value y) → y < 2 ^ 64 → o ≡ written at (decimal y) b
       → (o ≡ written at (answer_text (answer_said a)) b) × (length (line_out (answer_said a)) ≤ room)
   unfolding answer_text
   text-value {y} e h g = rw e (g, value_short y h)
 
-  pub text-count : {m : ℕ} → a ≡ Count m → m < 2 ^ 64 → o ≡ written at (decimal m) b
+  pub text-count : {m : ℕ} → a ≡ Ok (Count m) → m < 2 ^ 64 → o ≡ written at (decimal m) b
       → (o ≡ written at (answer_text (answer_said a)) b) × (length (line_out (answer_said a)) ≤ room)
   unfolding answer_text
   text-count {m} e h g = rw e (g, count_short m h)
 
-  pub text-done : a ≡ Done → o ≡ written at ok_text b
+  pub text-done : a ≡ Ok Done → o ≡ written at ok_text b
       → (o ≡ written at (answer_text (answer_said a)) b) × (length (line_out (answer_said a)) ≤ room)
   unfolding answer_text
   text-done e g = rw e (g, done_short)
 
-  pub text-refused : {r : Refusal} → a ≡ Refused r → o ≡ written at (refused_text ++ decimal (number_of r)) b
+  pub text-refused : {r : Refusal} → a ≡ Err r → o ≡ written at (refused_text ++ decimal (number_of r)) b
       → (o ≡ written at (answer_text (answer_said a)) b) × (length (line_out (answer_said a)) ≤ room)
   unfolding answer_text
   text-refused {r} e g = rw e (g, refused_short (number_of r) (number_small r))
@@ -114,17 +112,17 @@ says at b d w fits ends s e l = (ends ∙ written_then at (answer_text s) (newli
 
 -- ---- a refusal's text
 
-module _ (at : ℕ) (b d : List ℕ) {w : Written} (fits : at + room ≤ length b) (first : outcome w d ≡ written at refused_text b) where
-  pub refusal-text : (r : Refusal) {n m : ℕ} → w ≡ End n → m ≡ number_of r → written n (decimal m) d ≡ written at (refused_text ++ decimal (number_of r)) b
+module _ (at : ℕ) (b d : List ℕ) {w : Result ℕ Refusal} (fits : at + room ≤ length b) (first : outcome w d ≡ written at refused_text b) where
+  pub refusal-text : (r : Refusal) {n m : ℕ} → w ≡ Ok n → m ≡ number_of r → written n (decimal m) d ≡ written at (refused_text ++ decimal (number_of r)) b
   refusal-text r {n} {m} e f =
       rw f (then_end (decimal (number_of r)) d e ∙ written_then at refused_text (decimal (number_of r)) b enough first)
     where
       enough : at + length (refused_text ++ decimal (number_of r)) ≤ length b
       enough = omega (arith, length-append refused_text (decimal (number_of r)), length-decimal_32 (number_of r) (number_small r))
 
-  pub refusal-fits : {r : Refusal} → w ≡ written-variants.Refused r → ⊥
+  pub refusal-fits : {r : Refusal} → w ≡ Err r → ⊥
   refusal-fits {r} e =
-      omega (arith, (written-refused at refused_text b d (number_of r) (ap (λ (x : Written). outcome x d) (sym e) ∙ first)).0)
+      omega (arith, (written-refused at refused_text b d (number_of r) (ap (λ (x : Result ℕ Refusal). outcome x d) (sym e) ∙ first)).0)
 
 -- ---- a line in a buffer that has the room
 
@@ -134,24 +132,24 @@ said-lined s at b d w h e l = e ∙ written-fits at (line_out s) b (omega arith)
 
 -- ---- a line made at the front of a buffer
 
-module _ (s : Said) (b d : List ℕ) {w : Written} (e : outcome w d ≡ lined s 0 b) where
-  pub front_end : {n : ℕ} → w ≡ End n → n ≡ length (line_out s)
+module _ (s : Said) (b d : List ℕ) {w : Result ℕ Refusal} (e : outcome w d ≡ lined s 0 b) where
+  pub front_end : {n : ℕ} → w ≡ Ok n → n ≡ length (line_out s)
   front_end {n} f =
       let q : tells n ≡ tells (0 + length (line_out s)) = sym (ap told_of f) ∙ ap (λ (p : Told ℕ × List ℕ). p.0) e in
       let m : n ≡ 0 + length (line_out s) = cc in
       omega arith
 
   -- so what is written of it is the line
-  pub front_written : {n : ℕ} → w ≡ End n → (at : ℕ) (out : List ℕ) → written at (take n d) out ≡ written at (line_out s) out
+  pub front_written : {n : ℕ} → w ≡ Ok n → (at : ℕ) (out : List ℕ) → written at (take n d) out ≡ written at (line_out s) out
   front_written f at out =
       ap (λ (t : List ℕ). written at t out)
       (ap₂ (λ (m : ℕ) (x : List ℕ). take m x) (front_end f) (ap (λ (p : Told ℕ × List ℕ). p.1) e)
       ∙ take_at (line_out s) (drop (0 + length (line_out s)) b) (length (line_out s)) refl)
 
-  pub front_in : {n : ℕ} → w ≡ End n → n ≤ length d
+  pub front_in : {n : ℕ} → w ≡ Ok n → n ≤ length d
   front_in f = omega (arith, front_end f, ap (λ (p : Told ℕ × List ℕ). length p.1) e, length-append (line_out s) (drop (0 + length (line_out s)) b))
 
-  pub front_fits : {r : Refusal} → w ≡ written-variants.Refused r → ⊥
+  pub front_fits : {r : Refusal} → w ≡ Err r → ⊥
   front_fits {r} f =
       let q : refused (number_of r) ≡ tells (0 + length (line_out s)) = sym (ap told_of f) ∙ ap (λ (p : Told ℕ × List ℕ). p.0) e in
       let z : ◌≡◌ {A = ℕ} 0 1 = cc in

@@ -12,51 +12,43 @@ use keys::KeyData;
 use refusal::Refusal;
 use script_look::Answer;
 use text::{write_decimal, write_key};
-use writing::{Written, write_bytes};
+use writing::write_bytes;
 
 // How many bytes the longest line of output has: an index and a version of ten digits each, the letter and the newline.
 pub const ROOM: usize = 22;
 
 // The newline after a text, unless the text was refused.
-fn end_line(w: Written, out: &mut [u8]) -> Written
+fn end_line(w: Result<usize, Refusal>, out: &mut [u8]) -> Result<usize, Refusal>
     ensures { outcome result out.new ≡ written_after (told_of w) (newline ∷ []) out.old }
 {
-    match w {
-        Written::End(n) => write_bytes(b"\n", n, out),
-        Written::Refused(r) => Written::Refused(r),
-    }
+    write_bytes(b"\n", w?, out)
 }
 
 // A refusal's text.
-fn write_refusal(refusal: Refusal, at: usize, out: &mut [u8]) -> Written
+fn write_refusal(refusal: Refusal, at: usize, out: &mut [u8]) -> Result<usize, Refusal>
     requires { at + room ≤ length out.old }
     ensures { outcome result out.new ≡ written at (refused_text ++ decimal (number_of refusal)) out.old }
 {
-    match write_bytes(b"refused ", at, out) {
-        Written::End(n) => {
-            let number = refusal.number();
-            write_decimal(number as u64, n, out)
-        }
-        Written::Refused(r) => Written::Refused(r),
-    }
+    let n = write_bytes(b"refused ", at, out)?;
+    write_decimal(refusal.number() as u64, n, out)
 }
 
 // Writes an answer's text, from a place of a buffer that has the room for its line on.
-fn write_text(answer: Answer, at: usize, out: &mut [u8]) -> Written
+fn write_text(answer: Result<Answer, Refusal>, at: usize, out: &mut [u8]) -> Result<usize, Refusal>
     requires { at + room ≤ length out.old }
     ensures { (outcome result out.new ≡ written at (answer_text (answer_said answer)) out.old) × (length (line_out (answer_said answer)) ≤ room) }
 {
     match answer {
-        Answer::Key(k) => write_key(KeyData::from_ffi(k), at, out),
-        Answer::Value(x) => write_decimal(x, at, out),
-        Answer::Done => write_bytes(b"ok", at, out),
-        Answer::Count(n) => write_decimal(n as u64, at, out),
-        Answer::Refused(r) => write_refusal(r, at, out),
+        Ok(Answer::Key(k)) => write_key(KeyData::from_ffi(k), at, out),
+        Ok(Answer::Value(x)) => write_decimal(x, at, out),
+        Ok(Answer::Done) => write_bytes(b"ok", at, out),
+        Ok(Answer::Count(n)) => write_decimal(n as u64, at, out),
+        Err(why) => write_refusal(why, at, out),
     }
 }
 
 // The same as one line.
-fn write_line(answer: Answer, at: usize, out: &mut [u8]) -> Written
+fn write_line(answer: Result<Answer, Refusal>, at: usize, out: &mut [u8]) -> Result<usize, Refusal>
     requires { at + room ≤ length out.old }
     ensures { (outcome result out.new ≡ lined (answer_said answer) at out.old) × (length (line_out (answer_said answer)) ≤ room) }
 {
@@ -66,12 +58,10 @@ fn write_line(answer: Answer, at: usize, out: &mut [u8]) -> Written
 
 // Writes an answer as one line, from a place of a buffer on. The line is made beside the buffer, since one that does not fit leaves the buffer
 // as it was.
-pub fn say(answer: Answer, at: usize, out: &mut [u8]) -> Written
+pub fn say(answer: Result<Answer, Refusal>, at: usize, out: &mut [u8]) -> Result<usize, Refusal>
     ensures { (outcome result out.new ≡ written at (line_out (answer_said answer)) out.old) × (length (line_out (answer_said answer)) ≤ room) }
 {
     let mut line = [0u8; ROOM];
-    match write_line(answer, 0, &mut line) {
-        Written::End(n) => write_bytes(&line[..n], at, out),
-        Written::Refused(r) => Written::Refused(r),
-    }
+    let n = write_line(answer, 0, &mut line)?;
+    write_bytes(&line[..n], at, out)
 }

@@ -1,61 +1,67 @@
 -- No second outcome: each reading of an answer is one-to-one, so a contract that is one equation is met by one answer, and by one map with it.
 -- Assumes nothing.
-use mathlib.Core.Path.{◌≡◌, sym, ap, ◌∙◌}
+use mathlib.Core.Path.{◌≡◌, sym, ap, ap₂, ◌∙◌}
+use mathlib.Core.Logic.{◌≢◌}
+use mathlib.Core.Bool.{Bool}
 use mathlib.Core.List.{List}
 use Prim.Native.Nat.{ℕ}
+use Rattle.std.specs.Prelude.{Option, Some, None, Result, Ok, Err}
+use Rattle.refusal.specs.declared.Refusal.{Refusal}
+use Rattle.refusal.specs.declared.Changed.{Changed}
 use Rattle.refusal.specs.Refusals.{number_of}
 use Rattle.refusal.proofs.Numbers.{number_one_to_one}
-use Rattle.secondary.specs.declared.Length.{Length}
-use Rattle.secondary.specs.declared.Length.TheVariants as Length·
-use Rattle.secondary.specs.declared.Truth.{Truth}
-use Rattle.secondary.specs.declared.Truth.TheVariants as Truth·
-use Rattle.secondary.specs.declared.Found.{Found}
-use Rattle.secondary.specs.declared.Found.TheVariants as Found·
-use Rattle.secondary.specs.declared.Got.{Got}
-use Rattle.secondary.specs.declared.Got.TheVariants as Got·
-use Rattle.secondary.specs.declared.Step.{Step}
-use Rattle.secondary.specs.declared.Step.TheVariants as Step·
+use Rattle.secondary.specs.declared.Element.{Element}
 use Rattle.map.specs.declared.MapHeader.{MapHeader}
 use Rattle.map.specs.Map.{Map}
-use Rattle.map.specs.Calls.{Said, Out}
-use Rattle.secondary.specs.Answers.{length_of, truth_of, found_of, got_of, step_of}
+use Rattle.map.specs.Calls.{Said, said_value, said_count, said_truth, said_element, refused, found, fails, Out}
+use Rattle.secondary.specs.Answers.{reading, length_of, truth_of, found_of, got_of, stepped, step_of}
 
 -- ---- the readings
 
-pub length_one_to_one : (a b : Length) → length_of a ≡ length_of b → a ≡ b
-length_one_to_one (Length·.Count n) (Length·.Count m) e = cc
-length_one_to_one (Length·.Count n) (Length·.Refused r) e = cc
-length_one_to_one (Length·.Refused r) (Length·.Count m) e = cc
-length_one_to_one (Length·.Refused r) (Length·.Refused q) e = let n : number_of r ≡ number_of q = cc in ap Length·.Refused (number_one_to_one r q n)
+module _ {A B : Type 0} (accepted : A → B) (barred : ℕ → B) where
+  -- an answer's reading is one-to-one where its two functions are, and never meet
+  pub reading_one_to_one : ((x y : A) → accepted x ≡ accepted y → x ≡ y) → ((n m : ℕ) → barred n ≡ barred m → n ≡ m) → ((x : A) (n : ℕ) → accepted x ≢ barred n)
+      → (a b : Result A Refusal) → reading accepted barred a ≡ reading accepted barred b → a ≡ b
+  reading_one_to_one one two apart (Ok x) (Ok y) e = ap Ok (one x y e)
+  reading_one_to_one one two apart (Ok x) (Err q) e = absurd (apart x (number_of q) e)
+  reading_one_to_one one two apart (Err r) (Ok y) e = absurd (apart y (number_of r) (sym e))
+  reading_one_to_one one two apart (Err r) (Err q) e = ap Err (number_one_to_one r q (two _ _ e))
 
-pub truth_one_to_one : (a b : Truth) → truth_of a ≡ truth_of b → a ≡ b
-truth_one_to_one (Truth·.Is x) (Truth·.Is y) e = cc
-truth_one_to_one (Truth·.Is x) (Truth·.Refused r) e = cc
-truth_one_to_one (Truth·.Refused r) (Truth·.Is y) e = cc
-truth_one_to_one (Truth·.Refused r) (Truth·.Refused q) e = let n : number_of r ≡ number_of q = cc in ap Truth·.Refused (number_one_to_one r q n)
+-- what is said of an answer
+pub said_one_to_one : {A : Type 0} (said : A → Said) → ((x y : A) → said x ≡ said y → x ≡ y) → ((x : A) (n : ℕ) → said x ≢ refused n)
+    → (a b : Result A Refusal) → reading said refused a ≡ reading said refused b → a ≡ b
+said_one_to_one said one apart = reading_one_to_one said refused one (λ n m e. cc) apart
 
-pub found_one_to_one : (a b : Found) → found_of a ≡ found_of b → a ≡ b
-found_one_to_one (Found·.At i) (Found·.At j) e = cc
-found_one_to_one (Found·.At i) (Found·.Refused r) e = cc
-found_one_to_one (Found·.Refused r) (Found·.At j) e = cc
-found_one_to_one (Found·.Refused r) (Found·.Refused q) e = let n : number_of r ≡ number_of q = cc in ap Found·.Refused (number_one_to_one r q n)
+pub length_one_to_one : (a b : Result ℕ Refusal) → length_of a ≡ length_of b → a ≡ b
+length_one_to_one = said_one_to_one said_count (λ x y e. cc) (λ x n e. cc)
 
-pub got_one_to_one : (a b : Got) → got_of a ≡ got_of b → a ≡ b
-got_one_to_one (Got·.Value x) (Got·.Value y) e = cc
-got_one_to_one (Got·.Value x) (Got·.Refused r) e = cc
-got_one_to_one (Got·.Refused r) (Got·.Value y) e = cc
-got_one_to_one (Got·.Refused r) (Got·.Refused q) e = let n : number_of r ≡ number_of q = cc in ap Got·.Refused (number_one_to_one r q n)
+pub truth_one_to_one : (a b : Result Bool Refusal) → truth_of a ≡ truth_of b → a ≡ b
+truth_one_to_one = said_one_to_one said_truth (λ x y e. cc) (λ x n e. cc)
 
-pub step_one_to_one : (a b : Step) → step_of a ≡ step_of b → a ≡ b
-step_one_to_one (Step·.Element k x q) (Step·.Element j y p) e = cc
-step_one_to_one (Step·.Element k x q) Step·.Done e = cc
-step_one_to_one (Step·.Element k x q) (Step·.Refused r) e = cc
-step_one_to_one Step·.Done (Step·.Element j y p) e = cc
-step_one_to_one Step·.Done Step·.Done e = cc
-step_one_to_one Step·.Done (Step·.Refused r) e = cc
-step_one_to_one (Step·.Refused r) (Step·.Element j y p) e = cc
-step_one_to_one (Step·.Refused r) Step·.Done e = cc
-step_one_to_one (Step·.Refused r) (Step·.Refused q) e = let n : number_of r ≡ number_of q = cc in ap Step·.Refused (number_one_to_one r q n)
+pub found_one_to_one : (a b : Result ℕ Refusal) → found_of a ≡ found_of b → a ≡ b
+found_one_to_one = reading_one_to_one found fails (λ x y e. cc) (λ n m e. cc) (λ x n e. cc)
+
+pub got_one_to_one : (a b : Result ℕ Refusal) → got_of a ≡ got_of b → a ≡ b
+got_one_to_one = said_one_to_one said_value (λ x y e. cc) (λ x n e. cc)
+
+-- the element that was read
+element_said : Said → Option Element
+element_said (said_element k x q) = Some (record { key = k; value = x; next = q })
+element_said o = None
+
+stepped_one_to_one : (x y : Option Element) → stepped x ≡ stepped y → x ≡ y
+unfolding element_said
+stepped_one_to_one (Some x) (Some y) e = ap element_said e
+stepped_one_to_one (Some x) None e = cc
+stepped_one_to_one None (Some y) e = cc
+stepped_one_to_one None None e = cc
+
+stepped_apart : (x : Option Element) (n : ℕ) → stepped x ≢ refused n
+stepped_apart (Some x) n e = cc
+stepped_apart None n e = cc
+
+pub step_one_to_one : (a b : Result (Option Element) Refusal) → step_of a ≡ step_of b → a ≡ b
+step_one_to_one = said_one_to_one stepped stepped_one_to_one stepped_apart
 
 -- ---- an answer with the map after it: lookup, put, and in the crates above
 
@@ -68,3 +74,13 @@ pub out_only : {A : Type 0} (read : A → Said) → ((a b : A) → read a ≡ re
 out_only read one a b m n o e f =
     let q : ◌≡◌ {A = Out} (read a, m) (read b, n) = e ∙ sym f in
     (one a b (ap (λ (p : Out). p.0) q), ap (λ (p : Out). p.1) q)
+
+-- an answer with the header that is handed back, and the arrays after the call
+pub changed_only : {A : Type 0} (read : Result A Refusal → Said) → ((a b : Result A Refusal) → read a ≡ read b → a ≡ b) → (vs us xs ys : List ℕ) (o : Out) (r q : Changed MapHeader A)
+    → ◌≡◌ {A = Out} (read r.answer, map_of vs xs r.header) o → ◌≡◌ {A = Out} (read q.answer, map_of us ys q.header) o → (r ≡ q) × (vs ≡ us) × (xs ≡ ys)
+changed_only {A} read one vs us xs ys o r q e f =
+    let p = out_only read one r.answer q.answer _ _ o e f in (
+      ap₂ (λ (h : MapHeader) (a : Result A Refusal). record { header = h; answer = a }) (ap (λ (m : Map). m.head) p.1) p.0,
+      ap (λ (m : Map). m.versions) p.1,
+      ap (λ (m : Map). m.values) p.1,
+    )

@@ -1,11 +1,11 @@
 // The secondary map: values beside the keys of a table, in two lent arrays of one length. A slot of version 0 is vacant.
-// This crate has what the calls answer, the shape that each of them asks for first, and the count.
-#![tactic(auto)]
+// This crate has the lent map that the calls look at, the shape that each of them asks for first, and the count.
+#![tactic(auto, unfolding(map::specs::Map::lengths_fit, map::specs::Map::has_shape, map::specs::Calls::len, map::specs::Calls::is_empty), using(std::proofs::lemmas::Bool::Decides::nat_tests))]
 
 ghost use Rattle.std.specs.Prelude.{◌≡◌};
 ghost use Rattle.map.specs.Map.{lengths_fit, has_shape};
 ghost use Rattle.map.specs.Calls.{len, is_empty};
-ghost use Rattle.secondary.specs.Answers.{lent_map, length_of, truth_of};
+ghost use Rattle.secondary.specs.Answers.{seen_map, length_of, truth_of};
 
 use map::MapHeader;
 use refusal::Refusal;
@@ -13,40 +13,20 @@ use refusal::Refusal;
 // The longest arrays that a map takes.
 const LIMIT: usize = 4097;
 
-// ---- answers
-
+// The header and the two lent arrays of a call that only looks.
 #[derive(Clone, Copy)]
-pub enum Length {
-    Count(u32),
-    Refused(Refusal),
-}
-
-#[derive(Clone, Copy)]
-pub enum Truth {
-    Is(bool),
-    Refused(Refusal),
-}
-
-// The slot of a key.
-#[derive(Clone, Copy)]
-pub enum Found {
-    At(usize),
-    Refused(Refusal),
-}
-
-// The value of a key.
-#[derive(Clone, Copy)]
-pub enum Got {
-    Value(u64),
-    Refused(Refusal),
+pub struct MapView<'a> {
+    pub h: MapHeader,
+    pub versions: &'a [u32],
+    pub values: &'a [u64],
 }
 
 // An element's key and value, and the place after it.
 #[derive(Clone, Copy)]
-pub enum Step {
-    Element { key: u64, value: u64, next: u32 },
-    Done,
-    Refused(Refusal),
+pub struct Element {
+    pub key: u64,
+    pub value: u64,
+    pub next: u32,
 }
 
 // ---- shape
@@ -64,35 +44,35 @@ pub fn lengths_fit(versions: &[u32], values: &[u64]) -> bool
 }
 
 // Whether the lengths and the slot count fit.
-pub fn shape(h: MapHeader, versions: &[u32], values: &[u64]) -> bool
-    ensures { result ≡ has_shape (lent_map versions.now values.now h) }
+pub fn shape(view: MapView) -> bool
+    ensures { result ≡ has_shape (seen_map view.entry) }
 {
-    if !lengths_fit(versions, values) {
+    if !lengths_fit(view.versions, view.values) {
         return false;
     }
-    if h.s < 1 {
+    if view.h.s < 1 {
         return false;
     }
-    let s = h.s as usize;
-    s <= versions.len()
+    let s = view.h.s as usize;
+    s <= view.versions.len()
 }
 
 // ---- the count
 
-pub fn len(h: MapHeader, versions: &[u32], values: &[u64]) -> Length
-    ensures { length_of result ≡ len (lent_map versions.now values.now h) }
+pub fn len(view: MapView) -> Result<u32, Refusal>
+    ensures { length_of result ≡ len (seen_map view.entry) }
 {
-    if !shape(h, versions, values) {
-        return Length::Refused(Refusal::Shape);
+    if !shape(view) {
+        return Err(Refusal::Shape);
     }
-    Length::Count(h.count)
+    Ok(view.h.count)
 }
 
-pub fn is_empty(h: MapHeader, versions: &[u32], values: &[u64]) -> Truth
-    ensures { truth_of result ≡ is_empty (lent_map versions.now values.now h) }
+pub fn is_empty(view: MapView) -> Result<bool, Refusal>
+    ensures { truth_of result ≡ is_empty (seen_map view.entry) }
 {
-    if !shape(h, versions, values) {
-        return Truth::Refused(Refusal::Shape);
+    if !shape(view) {
+        return Err(Refusal::Shape);
     }
-    Truth::Is(h.count == 0)
+    Ok(view.h.count == 0)
 }

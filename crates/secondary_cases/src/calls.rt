@@ -1,11 +1,12 @@
 // The calls on a secondary map, each answered in words. The arrays are the parts that are lent.
 use crate::STDOUT_FILENO;
-use answers::Answer;
+use answers::{Answer, Made};
 use lines::first;
 use map::MapHeader;
 use map_answers::{counted, slotted, stepped, tested, value};
-use map_made::{Made, begun, clear, disjoint, drain_step, insert, put, remove, retain};
+use map_made::{begun, clear, disjoint, drain_step, insert, put, remove, retain};
 use replay::{Line, least, narrow};
+use secondary::MapView;
 
 // Room for the output of a disjoint.
 const OUTPUT: usize = 8;
@@ -19,46 +20,39 @@ fn tell(answer: Answer) {
 }
 
 // Tells what a call answered, and hands back the header.
-fn told(made: Made) -> MapHeader {
-    let answer = made.answer;
-    tell(answer);
+fn told(made: Made<MapHeader>) -> MapHeader {
+    tell(made.answer);
     made.header
 }
 
 // A whole map: its header and its two arrays, past s too.
-fn show(h: MapHeader, versions: &[u32], values: &[u64]) {
+fn show(view: MapView) {
     let mut text = [0u8; 512];
-    let end = state_lines::map_state(h, versions, values, 0, &mut text);
+    let end = state_lines::map_state(view, 0, &mut text);
     io::write_all(STDOUT_FILENO, first(&text, end));
 }
 
 fn show_words(list: &[u32]) {
     let mut text = [0u8; 80];
-    let end = lines::words(list, 0, &mut text);
+    let end = lines::row(list, 0, &mut text);
     io::write_all(STDOUT_FILENO, first(&text, end));
 }
 
 // ---- the calls that only look
 
-// Whether a letter names a call that only looks, and has an answer.
-fn looks(op: u8) -> bool {
-    match op {
-        b'g' | b'c' | b'o' | b'l' | b'f' | b'q' | b'y' => true,
-        _ => false,
-    }
-}
-
-// The answer of a call that only looks. A key is the last two numbers of a line, and a place the last one.
-fn look(h: MapHeader, versions: &[u32], values: &[u64], line: Line) -> Answer {
-    let op = line.op;
-    match op {
-        b'g' => value(secondary_look::lookup(h, versions, values, line.key())),
-        b'c' => tested(secondary_look::contains_key(h, versions, values, line.key())),
-        b'o' => slotted(secondary_look::slot(h, versions, values, line.key())),
-        b'l' => counted(secondary::len(h, versions, values)),
-        b'f' => tested(secondary::is_empty(h, versions, values)),
-        b'q' => Answer::truth(secondary_whole::is_whole(h, versions, values)),
-        _ => stepped(secondary_peek::peek(h, versions, values, narrow(line.c))),
+// A call that only looks. A key is the last two numbers of a line, and a place the last one. A line of any other letter is no call.
+fn look(view: MapView, line: Line) {
+    let k = line.key();
+    match line.op {
+        b's' => show(view),
+        b'g' => tell(value(secondary_look::lookup(view, k))),
+        b'c' => tell(tested(secondary_look::contains_key(view, k))),
+        b'o' => tell(slotted(secondary_look::slot(view, k))),
+        b'l' => tell(counted(secondary::len(view))),
+        b'f' => tell(tested(secondary::is_empty(view))),
+        b'q' => tell(Answer::Truth(secondary_whole::is_whole(view))),
+        b'y' => tell(stepped(secondary_peek::peek(view, narrow(line.c)))),
+        _ => {}
     }
 }
 
@@ -83,27 +77,24 @@ pub(crate) fn header(h: MapHeader, line: Line) -> MapHeader {
     h
 }
 
-// Whether a letter names a call that may write versions alone.
-fn changes(op: u8) -> bool {
-    match op {
-        b'L' | b'b' | b'r' | b'z' | b'e' | b'v' | b'm' | b'x' => true,
-        _ => false,
-    }
-}
-
 // The calls that may write versions alone. A key is the last two numbers.
-fn change(h: MapHeader, versions: &mut [u32], values: &[u64], line: Line) -> Made {
-    let op = line.op;
-    match op {
-        b'L' | b'b' => begun(h, secondary_put::fresh(versions, values)),
-        b'r' => remove(h, versions, values, line.key()),
-        b'z' => drain_step(h, versions, values, narrow(line.c)),
-        b'e' => clear(h, versions, values),
-        _ => retain(h, versions, values, line.rule()),
+fn change(
+    h: MapHeader,
+    versions: &mut [u32],
+    values: &[u64],
+    line: Line,
+) -> Option<Made<MapHeader>> {
+    match line.op {
+        b'L' | b'b' => Some(begun(h, secondary_put::fresh(versions, values))),
+        b'r' => Some(remove(h, versions, values, line.key())),
+        b'z' => Some(drain_step(h, versions, values, narrow(line.c))),
+        b'e' => Some(clear(h, versions, values)),
+        b'v' | b'm' | b'x' => Some(retain(h, versions, values, line.rule())),
+        _ => None,
     }
 }
 
-// The calls that write no value. A line of any other letter is no call.
+// The calls that write no value.
 fn keep(
     h: MapHeader,
     versions: &mut [u32],
@@ -112,21 +103,21 @@ fn keep(
     output: usize,
     line: Line,
 ) -> MapHeader {
-    let op = line.op;
-    if op == b'j' {
+    if line.op == b'j' {
         slots(h, versions, values, wanted, output);
         return h;
     }
-    if changes(op) {
-        return told(change(h, versions, values, line));
+    if let Some(made) = change(h, versions, values, line) {
+        return told(made);
     }
-    if op == b's' {
-        show(h, versions, values);
-        return h;
-    }
-    if looks(op) {
-        tell(look(h, versions, values, line));
-    }
+    look(
+        MapView {
+            h,
+            versions,
+            values,
+        },
+        line,
+    );
     h
 }
 

@@ -6,7 +6,7 @@
 mod calls;
 
 use map::MapHeader;
-use replay::least;
+use replay::{least, narrow};
 use replay_bend::Lent;
 
 // The file descriptors of standard input and of standard output.
@@ -19,13 +19,6 @@ const ROOM: usize = 4100;
 
 const WANTED: usize = 8;
 
-// Writes a line that is a remark.
-fn remark(input: &[u8], at: usize, op: u8) {
-    if op == b'#' {
-        io::write_all(STDOUT_FILENO, lines::line_at(input, at));
-    }
-}
-
 // The lines of the input, one after the other: each bends the whole arrays, or is a call on the parts that are lent.
 fn run(input: &[u8]) {
     let mut versions = [9u32; ROOM];
@@ -34,13 +27,14 @@ fn run(input: &[u8]) {
     let mut count = 0;
     let mut h = MapHeader { s: 0, count: 0 };
     let mut lent = Lent::none();
-    let mut at = 0;
-    while at < input.len() {
-        let line = replay_input::line_at(input, at);
-        remark(input, at, line.op);
+    for text in input.split_inclusive(|b| *b == b'\n') {
+        let line = replay_input::line_at(text, 0);
+        if line.op == b'#' {
+            io::write_all(STDOUT_FILENO, text);
+        }
         lent = replay_bend::lend(lent, line);
-        replay_bend::cell_u32(&mut versions, b'V', line);
-        replay_bend::cell_u64(&mut values, b'X', line);
+        replay_bend::cell(&mut versions, b'V', line, narrow(line.c));
+        replay_bend::cell(&mut values, b'X', line, line.c);
         let a = least(lent.versions, ROOM);
         let v = least(lent.values, ROOM);
         let w = least(count, WANTED);
@@ -53,7 +47,6 @@ fn run(input: &[u8]) {
             line,
         );
         count = replay_bend::ask(&mut wanted, count, line);
-        at = lines::line_end(input, at);
     }
 }
 

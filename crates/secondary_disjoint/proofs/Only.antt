@@ -6,12 +6,13 @@ use Rattle.map.specs.declared.MapHeader.{MapHeader}
 use Rattle.map.specs.Map.{Map}
 use Rattle.map.specs.Calls.{Out}
 use Rattle.secondary.proofs.Only.{out_only, map_of}
-use Rattle.secondary_sweep.specs.declared.Swept.{Swept}
+use Rattle.std.specs.Prelude.{Result}
+use Rattle.refusal.specs.declared.Refusal.{Refusal}
 use Rattle.secondary_sweep.specs.Outcomes.{swept_of}
 use Rattle.secondary_sweep.proofs.Only.{swept_one_to_one}
 
 module _ (vs us xs ys : List ℕ) where
-  pub disjoint_only : (r q : Swept) (h : MapHeader) (out outs : List ℕ) (o : Out × List ℕ) → ◌≡◌ {A = Out × List ℕ} ((swept_of r, map_of vs xs h), out) o
+  pub disjoint_only : (r q : Result (Unit {0}) Refusal) (h : MapHeader) (out outs : List ℕ) (o : Out × List ℕ) → ◌≡◌ {A = Out × List ℕ} ((swept_of r, map_of vs xs h), out) o
       → ◌≡◌ {A = Out × List ℕ} ((swept_of q, map_of us ys h), outs) o → (r ≡ q) × (vs ≡ us) × (xs ≡ ys) × (out ≡ outs)
   disjoint_only r q h out outs o e f =
       let s : ◌≡◌ {A = Out × List ℕ} ((swept_of r, map_of vs xs h), out) ((swept_of q, map_of us ys h), outs) = e ∙ sym f in

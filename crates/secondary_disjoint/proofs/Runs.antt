@@ -23,7 +23,7 @@ use Rattle.map.specs.Sweeps.{Slots, slots, misses, slotted, slots_of}
 use Rattle.map.proofs.Shaped.{shaped, shape_true}
 use Rattle.map.proofs.Cases.{there, there_true, slot-absent, slot-there}
 use Rattle.map.proofs.Stands.{Stands}
-use Rattle.secondary_disjoint.specs.declared.Marked.TheVariants.{All, Stopped}
+use Rattle.std.specs.Prelude.{Ok, Err}
 use Rattle.map.specs.Refused.{indexes}
 use Rattle.secondary_disjoint.specs.Marks.{unmarked, Marking}
 use Rattle.secondary_disjoint.proofs.Marks.{Spot, spot_free, spot_there, spot_repeated, spot_marked}
@@ -166,11 +166,11 @@ pub marked-shape : (m : Map) (vs : List ℕ) → has_shape m ≡ true → length
 marked-shape m vs sh e = let h = shaped m sh in shape_true (marked m vs) (omega arith)
 
 pub marking_stopped : (m : Map) (ks vs : List ℕ) (n : ℕ) (r : Refusal) → Run m ks vs n → n < length ks → has_shape m ≡ true
-    → slot (marked m vs) (get_or ks n 0) ≡ fails (number_of r) → Marking m ks (Stopped n r) vs
+    → slot (marked m vs) (get_or ks n 0) ≡ fails (number_of r) → Marking m ks (record { count = n; answer = Err r }) vs
 marking_stopped m ks vs n r h l sh e =
     record { found = run-stops m ks vs n h l (number_of r) (marked-shape m vs sh h.same) e; few = h.few; within = h.within; back = h.back }
 
-pub marking_all : (m : Map) (ks vs : List ℕ) (n : ℕ) → Run m ks vs n → length ks ≤ n → Marking m ks All vs
+pub marking_all : (m : Map) (ks vs : List ℕ) (n : ℕ) → Run m ks vs n → length ks ≤ n → Marking m ks (record { count = length ks; answer = Ok (tt {0}) }) vs
 marking_all m ks vs n h l =
     let all : n ≡ length ks = omega (arith, h.few) in
     record {

@@ -15,17 +15,16 @@ ghost use Rattle.secondary_disjoint.specs.Marks.{unmarked, Marking};
 use keys::KeyData;
 use map::MapHeader;
 use refusal::Refusal;
-use secondary::Found;
-use secondary_sweep::Swept;
+use secondary::MapView;
 
 // The version of a marked slot. It is even, so no key has it, and a key that comes a second time is not there.
 const MARK: u32 = 2;
 
-// Whether all keys were marked; or how many were before the first that is not there.
+// How many keys are marked, and the refusal of the first that is not there.
 #[derive(Clone, Copy)]
-enum Marked {
-    All,
-    Stopped(usize, Refusal),
+struct Marked {
+    count: usize,
+    answer: Result<(), Refusal>,
 }
 
 // Marks the slots of the keys, in the order of the list.
@@ -33,27 +32,36 @@ fn mark(h: MapHeader, versions: &mut [u32], values: &[u64], keys: &[u64]) -> Mar
     requires { has_shape (lent_map versions.old values.now h) ≡ true }
     ensures { Marking (lent_map versions.old values.now h) keys.now result versions.new }
 {
-    let mut n = 0;
-    while n < keys.len() {
-        match secondary_look::slot(h, versions, values, keys[n]) {
-            Found::At(i) => {
+    for (n, k) in keys.iter().enumerate() {
+        let view = MapView {
+            h,
+            versions,
+            values,
+        };
+        match secondary_look::slot(view, *k) {
+            Ok(i) => {
                 versions[i] = MARK;
             }
-            Found::Refused(r) => return Marked::Stopped(n, r),
+            Err(r) => {
+                return Marked {
+                    count: n,
+                    answer: Err(r),
+                };
+            }
         }
-        n += 1;
     }
-    Marked::All
+    Marked {
+        count: keys.len(),
+        answer: Ok(()),
+    }
 }
 
-// Gives the slots of the first n keys their versions back.
+// Gives the slots of the first n keys their versions back, the last key first.
 fn unmark(versions: &mut [u32], keys: &[u64], n: usize)
     requires { (n ≤ length keys.now) × ((j : ℕ) → j < n → idx (get_or keys.now j 0) < length versions.old) }
     ensures { versions.new ≡ unmarked versions.old keys.now n }
 {
-    let mut j = n;
-    while 0 < j {
-        j -= 1;
+    for j in (0..n).rev() {
         let key = KeyData::from_ffi(keys[j]);
         let i = key.idx as usize;
         versions[i] = key.version;
@@ -65,11 +73,9 @@ fn fill(keys: &[u64], out: &mut [u32])
     requires { length keys.now ≤ length out.old }
     ensures { out.new ≡ put out.old 0 (indexes keys.now) }
 {
-    let mut n = 0;
-    while n < keys.len() {
-        let key = KeyData::from_ffi(keys[n]);
+    for (n, k) in keys.iter().enumerate() {
+        let key = KeyData::from_ffi(*k);
         out[n] = key.idx;
-        n += 1;
     }
 }
 
@@ -79,24 +85,23 @@ pub fn disjoint(
     values: &[u64],
     keys: &[u64],
     out: &mut [u32],
-) -> Swept
+) -> Result<(), Refusal>
     ensures { ((swept_of result, lent_map versions.new values.now h), out.new) ≡ disjoint (lent_map versions.old values.now h) keys.now out.old }
 {
-    if !secondary::shape(h, versions, values) {
-        return Swept::Refused(Refusal::Shape);
+    let view = MapView {
+        h,
+        versions,
+        values,
+    };
+    if !secondary::shape(view) {
+        return Err(Refusal::Shape);
     }
-    match mark(h, versions, values, keys) {
-        Marked::All => {
-            unmark(versions, keys, keys.len());
-            if out.len() < keys.len() {
-                return Swept::Refused(Refusal::Short);
-            }
-            fill(keys, out);
-            Swept::Done
-        }
-        Marked::Stopped(n, r) => {
-            unmark(versions, keys, n);
-            Swept::Refused(r)
-        }
+    let marked = mark(h, versions, values, keys);
+    unmark(versions, keys, marked.count);
+    marked.answer?;
+    if out.len() < keys.len() {
+        return Err(Refusal::Short);
     }
+    fill(keys, out);
+    Ok(())
 }

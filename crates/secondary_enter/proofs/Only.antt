@@ -1,50 +1,41 @@
 -- No second outcome of insert: two outcomes that meet one contract are the same answer, header and arrays. Assumes nothing.
-use mathlib.Core.Path.{◌≡◌, ap, ap₂}
+use mathlib.Core.Path.{◌≡◌, refl, sym, ap, ◌∙◌}
+use mathlib.Core.Logic.{◌≢◌}
 use mathlib.Core.List.{List}
 use Prim.Native.Nat.{ℕ}
-use Rattle.refusal.specs.Refusals.{number_of}
-use Rattle.refusal.proofs.Numbers.{number_one_to_one}
+use Rattle.std.specs.Prelude.{Result}
+use Rattle.refusal.specs.declared.Refusal.{Refusal}
+use Rattle.refusal.specs.declared.Changed.{Changed}
 use Rattle.map.specs.declared.MapHeader.{MapHeader}
-use Rattle.map.specs.Map.{Map}
-use Rattle.map.specs.Calls.{Out}
-use Rattle.secondary.proofs.Only.{out_only, map_of}
+use Rattle.map.specs.Calls.{Said, said_replaced, said_kept, said_stored, refused, Out}
+use Rattle.secondary.proofs.Only.{said_one_to_one, changed_only, map_of}
 use Rattle.secondary_enter.specs.declared.Inserted.{Inserted}
 use Rattle.secondary_enter.specs.declared.Inserted.TheVariants as Inserted·
-use Rattle.secondary_enter.specs.declared.Insertion.{Insertion}
-use Rattle.secondary_enter.specs.Outcomes.{inserted_of}
+use Rattle.secondary_enter.specs.Outcomes.{inserted, inserted_of}
 
-pub inserted_one_to_one : (a b : Inserted) → inserted_of a ≡ inserted_of b → a ≡ b
-inserted_one_to_one Inserted·.Ignored Inserted·.Ignored e = cc
-inserted_one_to_one Inserted·.Ignored (Inserted·.Replaced y) e = cc
-inserted_one_to_one Inserted·.Ignored Inserted·.Kept e = cc
-inserted_one_to_one Inserted·.Ignored Inserted·.Stored e = cc
-inserted_one_to_one Inserted·.Ignored (Inserted·.Refused q) e = cc
-inserted_one_to_one (Inserted·.Replaced x) Inserted·.Ignored e = cc
-inserted_one_to_one (Inserted·.Replaced x) (Inserted·.Replaced y) e = cc
-inserted_one_to_one (Inserted·.Replaced x) Inserted·.Kept e = cc
-inserted_one_to_one (Inserted·.Replaced x) Inserted·.Stored e = cc
-inserted_one_to_one (Inserted·.Replaced x) (Inserted·.Refused q) e = cc
-inserted_one_to_one Inserted·.Kept Inserted·.Ignored e = cc
-inserted_one_to_one Inserted·.Kept (Inserted·.Replaced y) e = cc
-inserted_one_to_one Inserted·.Kept Inserted·.Kept e = cc
-inserted_one_to_one Inserted·.Kept Inserted·.Stored e = cc
-inserted_one_to_one Inserted·.Kept (Inserted·.Refused q) e = cc
-inserted_one_to_one Inserted·.Stored Inserted·.Ignored e = cc
-inserted_one_to_one Inserted·.Stored (Inserted·.Replaced y) e = cc
-inserted_one_to_one Inserted·.Stored Inserted·.Kept e = cc
-inserted_one_to_one Inserted·.Stored Inserted·.Stored e = cc
-inserted_one_to_one Inserted·.Stored (Inserted·.Refused q) e = cc
-inserted_one_to_one (Inserted·.Refused r) Inserted·.Ignored e = cc
-inserted_one_to_one (Inserted·.Refused r) (Inserted·.Replaced y) e = cc
-inserted_one_to_one (Inserted·.Refused r) Inserted·.Kept e = cc
-inserted_one_to_one (Inserted·.Refused r) Inserted·.Stored e = cc
-inserted_one_to_one (Inserted·.Refused r) (Inserted·.Refused q) e = let n : number_of r ≡ number_of q = cc in ap Inserted·.Refused (number_one_to_one r q n)
+-- what was said of an insert, read back; anything else gives the first
+read_back : Said → Inserted
+read_back (said_replaced x) = Inserted·.Replaced x
+read_back said_kept = Inserted·.Kept
+read_back said_stored = Inserted·.Stored
+read_back o = Inserted·.Ignored
 
-pub insert_only : (vs us xs ys : List ℕ) (o : Out) (r q : Insertion) → ◌≡◌ {A = Out} (inserted_of r.answer, map_of vs xs r.header) o → ◌≡◌ {A = Out} (inserted_of q.answer, map_of us ys q.header) o
+back_again : (a : Inserted) → read_back (inserted a) ≡ a
+unfolding read_back
+back_again Inserted·.Ignored = refl
+back_again (Inserted·.Replaced x) = refl
+back_again Inserted·.Kept = refl
+back_again Inserted·.Stored = refl
+
+inserted_apart : (a : Inserted) (n : ℕ) → inserted a ≢ refused n
+inserted_apart Inserted·.Ignored n e = cc
+inserted_apart (Inserted·.Replaced x) n e = cc
+inserted_apart Inserted·.Kept n e = cc
+inserted_apart Inserted·.Stored n e = cc
+
+pub inserted_one_to_one : (a b : Result Inserted Refusal) → inserted_of a ≡ inserted_of b → a ≡ b
+inserted_one_to_one = said_one_to_one inserted (λ a b e. sym (back_again a) ∙ ap read_back e ∙ back_again b) inserted_apart
+
+pub insert_only : (vs us xs ys : List ℕ) (o : Out) (r q : Changed MapHeader Inserted) → ◌≡◌ {A = Out} (inserted_of r.answer, map_of vs xs r.header) o → ◌≡◌ {A = Out} (inserted_of q.answer, map_of us ys q.header) o
     → (r ≡ q) × (vs ≡ us) × (xs ≡ ys)
-insert_only vs us xs ys o r q e f =
-    let p = out_only inserted_of inserted_one_to_one r.answer q.answer _ _ o e f in (
-      ap₂ (λ (h : MapHeader) (a : Inserted). record { header = h; answer = a }) (ap (λ (m : Map). m.head) p.1) p.0,
-      ap (λ (m : Map). m.versions) p.1,
-      ap (λ (m : Map). m.values) p.1,
-    )
+insert_only = changed_only inserted_of inserted_one_to_one

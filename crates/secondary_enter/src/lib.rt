@@ -10,7 +10,8 @@ ghost use Rattle.secondary_enter.specs.Outcomes.{insertion_of};
 
 use keys::KeyData;
 use map::MapHeader;
-use refusal::Refusal;
+use refusal::Changed;
+use secondary::MapView;
 use secondary_judge::{Fate, judge_insert};
 
 #[derive(Clone, Copy)]
@@ -22,13 +23,6 @@ pub enum Inserted {
     // A newer key has the slot.
     Kept,
     Stored,
-    Refused(Refusal),
-}
-
-#[derive(Clone, Copy)]
-pub struct Insertion {
-    pub header: MapHeader,
-    pub answer: Inserted,
 }
 
 // Makes the slots up to an index, each vacant. Their values stay.
@@ -39,12 +33,7 @@ fn grow(h: MapHeader, versions: &mut [u32], values: &[u64], index: u32) -> MapHe
     if index < h.s {
         return h;
     }
-    let end = index as usize;
-    let mut at = h.s as usize;
-    while at <= end {
-        versions[at] = 0;
-        at += 1;
-    }
+    versions[h.s as usize..=index as usize].fill(0);
     MapHeader {
         s: index + 1,
         count: h.count,
@@ -52,6 +41,7 @@ fn grow(h: MapHeader, versions: &mut [u32], values: &[u64], index: u32) -> MapHe
 }
 
 // Stores a key's version and value in its slot, which is made if need be.
+#[tactic(auto, unfolding(map::specs::Map::stored))]
 fn store(
     h: MapHeader,
     versions: &mut [u32],
@@ -70,38 +60,51 @@ fn store(
     MapHeader { s: g.s, count }
 }
 
-pub fn insert(h: MapHeader, versions: &mut [u32], values: &mut [u64], k: u64, x: u64) -> Insertion
+pub fn insert(
+    h: MapHeader,
+    versions: &mut [u32],
+    values: &mut [u64],
+    k: u64,
+    x: u64,
+) -> Changed<MapHeader, Inserted>
     ensures { insertion_of result versions.new values.new ≡ insert (lent_map versions.old values.old h) k x }
 {
     let key = KeyData::from_ffi(k);
-    match judge_insert(h, versions, values, key) {
-        Fate::Ignores => Insertion {
+    let view = MapView {
+        h,
+        versions,
+        values,
+    };
+    let fate = match judge_insert(view, key) {
+        Ok(fate) => fate,
+        Err(r) => {
+            return Changed {
+                header: h,
+                answer: Err(r),
+            };
+        }
+    };
+    match fate {
+        Fate::Ignores => Changed {
             header: h,
-            answer: Inserted::Ignored,
+            answer: Ok(Inserted::Ignored),
         },
         Fate::Replaces => {
             let i = key.idx as usize;
             let old = values[i];
             values[i] = x;
-            Insertion {
+            Changed {
                 header: h,
-                answer: Inserted::Replaced(old),
+                answer: Ok(Inserted::Replaced(old)),
             }
         }
-        Fate::Keeps => Insertion {
+        Fate::Keeps => Changed {
             header: h,
-            answer: Inserted::Kept,
+            answer: Ok(Inserted::Kept),
         },
-        Fate::Stores(count) => {
-            let g = store(h, versions, values, key, x, count);
-            Insertion {
-                header: g,
-                answer: Inserted::Stored,
-            }
-        }
-        Fate::Refused(r) => Insertion {
-            header: h,
-            answer: Inserted::Refused(r),
+        Fate::Stores(count) => Changed {
+            header: store(h, versions, values, key, x, count),
+            answer: Ok(Inserted::Stored),
         },
     }
 }

@@ -4,12 +4,12 @@
 ghost use Rattle.std.specs.Prelude.{◌≡◌, ◌≤◌};
 ghost use Rattle.map.specs.Map.{older};
 ghost use Rattle.map.specs.Calls.{settled, fate};
-ghost use Rattle.secondary.specs.Answers.{lent_map};
+ghost use Rattle.secondary.specs.Answers.{seen_map};
 ghost use Rattle.secondary_judge.specs.Fates.{fate_of};
 
 use keys::KeyData;
-use map::MapHeader;
 use refusal::Refusal;
+use secondary::{MapView, shape};
 
 // What an insert comes to. Storing leaves so many elements.
 #[derive(Clone, Copy)]
@@ -18,10 +18,10 @@ pub enum Fate {
     Replaces,
     Keeps,
     Stores(u32),
-    Refused(Refusal),
 }
 
 // Whether version a is older than version b: as plain numbers.
+#[tactic(auto, unfolding(map::specs::Map::older))]
 fn is_older_version(a: u32, b: u32) -> bool
     ensures { result ≡ older a b }
 {
@@ -29,45 +29,46 @@ fn is_older_version(a: u32, b: u32) -> bool
 }
 
 // A key's version against the version of its slot, in a map of so many slots and elements.
-fn settle(slots: u32, elements: u32, there: u32, version: u32) -> Fate
+#[tactic(auto, unfolding(map::specs::Calls::settled), using(std::proofs::lemmas::Bool::Decides::nat_tests))]
+fn settle(slots: u32, elements: u32, there: u32, version: u32) -> Result<Fate, Refusal>
     requires { 1 ≤ slots }
     ensures { fate_of result ≡ settled slots elements there version }
 {
     if there == version {
-        return Fate::Replaces;
+        return Ok(Fate::Replaces);
     }
     if there == 0 {
         if slots - 1 <= elements {
-            return Fate::Refused(Refusal::Damaged);
+            return Err(Refusal::Damaged);
         }
-        return Fate::Stores(elements + 1);
+        return Ok(Fate::Stores(elements + 1));
     }
     if is_older_version(version, there) {
-        return Fate::Keeps;
+        return Ok(Fate::Keeps);
     }
-    Fate::Stores(elements)
+    Ok(Fate::Stores(elements))
 }
 
 // A slot that is yet to be made is vacant, whatever stands there.
 #[tactic(auto, unfolding(map::specs::Calls::fate), using(std::proofs::lemmas::Bool::Decides::nat_tests))]
-pub fn judge_insert(h: MapHeader, versions: &[u32], values: &[u64], key: KeyData) -> Fate
-    ensures { fate_of result ≡ fate (lent_map versions.now values.now h) key }
+pub fn judge_insert(view: MapView, key: KeyData) -> Result<Fate, Refusal>
+    ensures { fate_of result ≡ fate (seen_map view.entry) key }
 {
-    if !secondary::shape(h, versions, values) {
-        return Fate::Refused(Refusal::Shape);
+    if !shape(view) {
+        return Err(Refusal::Shape);
     }
     if key.is_null() {
-        return Fate::Ignores;
+        return Ok(Fate::Ignores);
     }
     if key.idx == 0 {
-        return Fate::Refused(Refusal::IndexZero);
+        return Err(Refusal::IndexZero);
     }
     let i = key.idx as usize;
-    if versions.len() <= i {
-        return Fate::Refused(Refusal::Beyond);
+    if view.versions.len() <= i {
+        return Err(Refusal::Beyond);
     }
-    if key.idx < h.s {
-        return settle(h.s, h.count, versions[i], key.version);
+    if key.idx < view.h.s {
+        return settle(view.h.s, view.h.count, view.versions[i], key.version);
     }
-    settle(key.idx + 1, h.count, 0, key.version)
+    settle(key.idx + 1, view.h.count, 0, key.version)
 }

@@ -4,37 +4,29 @@
 ghost use Rattle.std.specs.Prelude.{◌≡◌, ◌≤◌, ◌<◌, length};
 ghost use Rattle.map.specs.Map.{emptied};
 ghost use Rattle.map.specs.Calls.{leaving, remove, drain};
-ghost use Rattle.secondary.specs.Answers.{lent_map, found_of};
+ghost use Rattle.secondary.specs.Answers.{lent_map, seen_map, found_of};
 ghost use Rattle.secondary_leave.specs.Outcomes.{removal_of, drained_of};
 
 use map::MapHeader;
-use refusal::Refusal;
-use secondary::{Found, Got, Step};
+use refusal::{Changed, Refusal};
+use secondary::{Element, MapView};
 
 // ---- remove
 
-#[derive(Clone, Copy)]
-pub struct Removal {
-    pub header: MapHeader,
-    pub answer: Got,
-}
-
 // The slot that a key's element leaves.
-fn leaving(h: MapHeader, versions: &[u32], values: &[u64], k: u64) -> Found
-    ensures { found_of result ≡ leaving (lent_map versions.now values.now h) k }
+#[tactic(auto, unfolding(map::specs::Calls::leaving, map::specs::Calls::leaving_from), using(std::proofs::lemmas::Bool::Decides::nat_tests))]
+fn leaving(view: MapView, k: u64) -> Result<usize, Refusal>
+    ensures { found_of result ≡ leaving (seen_map view.entry) k }
 {
-    match secondary_look::slot(h, versions, values, k) {
-        Found::At(i) => {
-            if h.count == 0 {
-                return Found::Refused(Refusal::Damaged);
-            }
-            Found::At(i)
-        }
-        Found::Refused(r) => Found::Refused(r),
+    let i = secondary_look::slot(view, k)?;
+    if view.h.count == 0 {
+        return Err(Refusal::Damaged);
     }
+    Ok(i)
 }
 
 // The slot becomes vacant. Its value stays.
+#[tactic(auto, unfolding(map::specs::Map::emptied))]
 fn vacate(h: MapHeader, versions: &mut [u32], values: &[u64], i: usize) -> MapHeader
     requires { (i < length versions.old) × (1 ≤ h.count) }
     ensures { lent_map versions.new values.now result ≡ emptied (lent_map versions.old values.now h) i }
@@ -46,59 +38,69 @@ fn vacate(h: MapHeader, versions: &mut [u32], values: &[u64], i: usize) -> MapHe
     }
 }
 
-pub fn remove(h: MapHeader, versions: &mut [u32], values: &[u64], k: u64) -> Removal
+#[tactic(auto, unfolding(map::specs::Calls::remove))]
+pub fn remove(h: MapHeader, versions: &mut [u32], values: &[u64], k: u64) -> Changed<MapHeader, u64>
     ensures { removal_of result versions.new values.now ≡ remove (lent_map versions.old values.now h) k }
 {
-    match leaving(h, versions, values, k) {
-        Found::At(i) => {
+    let view = MapView {
+        h,
+        versions,
+        values,
+    };
+    match leaving(view, k) {
+        Ok(i) => {
             let x = values[i];
             let g = vacate(h, versions, values, i);
-            Removal {
+            Changed {
                 header: g,
-                answer: Got::Value(x),
+                answer: Ok(x),
             }
         }
-        Found::Refused(r) => Removal {
+        Err(r) => Changed {
             header: h,
-            answer: Got::Refused(r),
+            answer: Err(r),
         },
     }
 }
 
 // ---- drain step
 
-#[derive(Clone, Copy)]
-pub struct Drained {
-    pub header: MapHeader,
-    pub answer: Step,
-}
-
 // The element that a look from the place on finds is removed.
-pub fn drain_step(h: MapHeader, versions: &mut [u32], values: &[u64], place: u32) -> Drained
+pub fn drain_step(
+    h: MapHeader,
+    versions: &mut [u32],
+    values: &[u64],
+    place: u32,
+) -> Changed<MapHeader, Option<Element>>
     ensures { drained_of result versions.new values.now ≡ drain (lent_map versions.old values.now h) place }
 {
-    match secondary_peek::peek(h, versions, values, place) {
-        Step::Element { key, value, next } => {
+    let view = MapView {
+        h,
+        versions,
+        values,
+    };
+    match secondary_peek::peek(view, place) {
+        Ok(Some(element)) => {
             if h.count == 0 {
-                return Drained {
+                return Changed {
                     header: h,
-                    answer: Step::Refused(Refusal::Damaged),
+                    answer: Err(Refusal::Damaged),
                 };
             }
-            let i = next as usize - 1;
+            let i = element.next as usize - 1;
             let g = vacate(h, versions, values, i);
-            Drained {
+            Changed {
                 header: g,
-                answer: Step::Element { key, value, next },
+                answer: Ok(Some(element)),
             }
         }
-        Step::Done => Drained {
+        Ok(None) => Changed {
             header: h,
-            answer: Step::Done,
+            answer: Ok(None),
         },
-        Step::Refused(r) => Drained {
+        Err(r) => Changed {
             header: h,
-            answer: Step::Refused(r),
+            answer: Err(r),
         },
     }
 }

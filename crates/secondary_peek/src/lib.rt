@@ -3,46 +3,42 @@
 
 ghost use Rattle.std.specs.Prelude.{◌≡◌, ◌≤◌, length};
 ghost use Rattle.map.specs.Calls.{ahead, peek};
-ghost use Rattle.secondary.specs.Answers.{lent_map, step_of};
+ghost use Rattle.secondary.specs.Answers.{seen_map, step_of};
 
 use keys::KeyData;
-use map::MapHeader;
 use refusal::Refusal;
-use secondary::{Step, shape};
+use secondary::{Element, MapView, shape};
 
 // The lowest occupied slot from a place on. Slot 0 is passed over.
-fn ahead(h: MapHeader, versions: &[u32], values: &[u64], place: u32) -> usize
-    requires { h.s ≤ length versions.now }
-    ensures { result ≡ ahead (lent_map versions.now values.now h) place }
+fn ahead(view: MapView, place: u32) -> usize
+    requires { view.h.s ≤ length view.versions.now }
+    ensures { result ≡ ahead (seen_map view.entry) place }
 {
-    let s = h.s as usize;
-    let mut i = place as usize;
-    if i < 1 {
-        i = 1;
-    }
-    while i < s {
-        if versions[i] != 0 {
+    let s = view.h.s as usize;
+    let from = (place as usize).max(1);
+    for i in from..s {
+        if view.versions[i] != 0 {
             return i;
         }
-        i += 1;
     }
-    i
+    from.max(s)
 }
 
-pub fn peek(h: MapHeader, versions: &[u32], values: &[u64], place: u32) -> Step
-    ensures { step_of result ≡ peek (lent_map versions.now values.now h) place }
+#[tactic(auto, unfolding(map::specs::Calls::met, map::specs::Calls::peek, map::specs::Calls::key_at), using(std::proofs::lemmas::Bool::Decides::nat_tests))]
+pub fn peek(view: MapView, place: u32) -> Result<Option<Element>, Refusal>
+    ensures { step_of result ≡ peek (seen_map view.entry) place }
 {
-    if !shape(h, versions, values) {
-        return Step::Refused(Refusal::Shape);
+    if !shape(view) {
+        return Err(Refusal::Shape);
     }
-    let i = ahead(h, versions, values, place);
-    if h.s as usize <= i {
-        return Step::Done;
+    let i = ahead(view, place);
+    if view.h.s as usize <= i {
+        return Ok(None);
     }
     let index = i as u32;
-    Step::Element {
-        key: KeyData::new(index, versions[i]).as_ffi(),
-        value: values[i],
+    Ok(Some(Element {
+        key: KeyData::new(index, view.versions[i]).as_ffi(),
+        value: view.values[i],
         next: index + 1,
-    }
+    }))
 }

@@ -1,9 +1,9 @@
 -- The rules' reading of what fresh answers. Assumes nothing.
-use Rattle.refusal.specs.Refusals.{number_of}
-use Rattle.map.specs.Calls.{Begun as Begins, begins, cannot}
-use Rattle.secondary_put.specs.declared.Begun.{Begun}
-use Rattle.secondary_put.specs.declared.Begun.TheVariants as Begun·
+use Rattle.std.specs.Prelude.{Result}
+use Rattle.refusal.specs.declared.Refusal.{Refusal}
+use Rattle.map.specs.declared.MapHeader.{MapHeader}
+use Rattle.map.specs.Calls.{Begun, begins, cannot}
+use Rattle.secondary.specs.Answers.{reading}
 
-abbrev pub begun_of : Begun → Begins
-begun_of (Begun·.Header h) = begins h
-begun_of (Begun·.Refused r) = cannot (number_of r)
+abbrev pub begun_of : Result MapHeader Refusal → Begun
+begun_of r = reading begins cannot r

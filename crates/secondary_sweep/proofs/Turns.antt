@@ -9,8 +9,8 @@ use lib.ListN.{length}
 use Rattle.refusal.specs.Refusals.{number_of}
 use Rattle.refusal.specs.declared.Refusal.{Refusal}
 use Rattle.map.specs.Map.{Map, ver, emptied}
-use Rattle.secondary.specs.declared.Step.{Step}
-use Rattle.secondary.specs.declared.Step.TheVariants.{Element, Done, Refused}
+use Rattle.std.specs.Prelude.{Option, Some, None, Result, Ok, Err}
+use Rattle.secondary.specs.declared.Element.{Element}
 use Rattle.map.specs.Calls.{said_element, said_done, refused, Out, drain}
 use Rattle.secondary.specs.Answers.{step_of}
 use Rattle.map.specs.Whole.{Whole}
@@ -102,16 +102,16 @@ module _ (m₀ m u : Map) (p : ℕ) (h : Draining m₀ m p) where
 
 -- ---- what the arms of the match on a step's answer tell
 
-module _ (m u : Map) (p : ℕ) (a : Step) (e : (step_of a, u) ≡ drain m p) where
-  pub step-element : (k x q : ℕ) → a ≡ Element k x q → drain m p ≡ (said_element k x q, u)
-  step-element k x q h = sym e ∙ ap (λ (b : Step). (step_of b, u)) h
+module _ (m u : Map) (p : ℕ) (a : Result (Option Element) Refusal) (e : (step_of a, u) ≡ drain m p) where
+  pub step-element : (x : Element) → a ≡ Ok (Some x) → drain m p ≡ (said_element x.key x.value x.next, u)
+  step-element x h = sym e ∙ ap (λ (b : Result (Option Element) Refusal). (step_of b, u)) h
 
-  pub step-done : a ≡ Done → (k x q : ℕ) → (drain m p).0 ≢ said_element k x q
+  pub step-done : a ≡ Ok None → (k x q : ℕ) → (drain m p).0 ≢ said_element k x q
   step-done h k x q f =
       let g : said_done ≡ said_element k x q = ap step_of (sym h) ∙ ap (λ (o : Out). o.0) e ∙ f in
       let z : ◌≡◌ {A = ℕ} 0 1 = cc in omega arith
 
-  pub step-refused : (r : Refusal) → a ≡ Refused r → (k x q : ℕ) → (drain m p).0 ≢ said_element k x q
+  pub step-refused : (r : Refusal) → a ≡ Err r → (k x q : ℕ) → (drain m p).0 ≢ said_element k x q
   step-refused r h k x q f =
       let g : refused (number_of r) ≡ said_element k x q = ap step_of (sym h) ∙ ap (λ (o : Out). o.0) e ∙ f in
       let z : ◌≡◌ {A = ℕ} 0 1 = cc in omega arith

@@ -10,21 +10,9 @@ ghost use Rattle.secondary_sweep.specs.Outcomes.{sweep_of};
 
 use keys::KeyData;
 use map::MapHeader;
-use refusal::Refusal;
+use refusal::{Changed, Refusal};
 use rules::Rule;
-use secondary::Step;
-
-#[derive(Clone, Copy)]
-pub enum Swept {
-    Done,
-    Refused(Refusal),
-}
-
-#[derive(Clone, Copy)]
-pub struct Sweep {
-    pub header: MapHeader,
-    pub answer: Swept,
-}
+use secondary::MapView;
 
 // ---- retain
 
@@ -51,33 +39,42 @@ fn sieve_all(h: MapHeader, versions: &mut [u32], values: &[u64], rule: Rule) -> 
 {
     let s = h.s as usize;
     let mut g = h;
-    let mut i = 0;
-    while i < s {
+    for i in 0..s {
         g = sieve(g, versions, values, rule, i);
-        i += 1;
     }
     g
 }
 
-pub fn retain(h: MapHeader, versions: &mut [u32], values: &[u64], rule: Rule) -> Sweep
+#[tactic(auto, unfolding(map::specs::Sweeps::retain))]
+pub fn retain(
+    h: MapHeader,
+    versions: &mut [u32],
+    values: &[u64],
+    rule: Rule,
+) -> Changed<MapHeader, ()>
     ensures { sweep_of result versions.new values.now ≡ retain (lent_map versions.old values.now h) rule }
 {
-    if !secondary::shape(h, versions, values) {
-        return Sweep {
+    let view = MapView {
+        h,
+        versions,
+        values,
+    };
+    if !secondary::shape(view) {
+        return Changed {
             header: h,
-            answer: Swept::Refused(Refusal::Shape),
+            answer: Err(Refusal::Shape),
         };
     }
-    if !secondary_whole::is_whole(h, versions, values) {
-        return Sweep {
+    if !secondary_whole::is_whole(view) {
+        return Changed {
             header: h,
-            answer: Swept::Refused(Refusal::Damaged),
+            answer: Err(Refusal::Damaged),
         };
     }
     let g = sieve_all(h, versions, values, rule);
-    Sweep {
+    Changed {
         header: g,
-        answer: Swept::Done,
+        answer: Ok(()),
     }
 }
 
@@ -91,40 +88,41 @@ fn drain_all(h: MapHeader, versions: &mut [u32], values: &[u64]) -> MapHeader
     let mut place: u32 = 0;
     loop {
         let d = secondary_leave::drain_step(g, versions, values, place);
-        let a = d.answer;
-        match a {
-            Step::Element {
-                key: _,
-                value: _,
-                next,
-            } => {
+        match d.answer {
+            Ok(Some(element)) => {
                 g = d.header;
-                place = next;
+                place = element.next;
             }
-            Step::Done => return d.header,
-            Step::Refused(_) => return d.header,
+            Ok(None) => return d.header,
+            Err(_) => return d.header,
         }
     }
 }
 
-pub fn clear(h: MapHeader, versions: &mut [u32], values: &[u64]) -> Sweep
+#[tactic(auto, unfolding(map::specs::Sweeps::clear))]
+pub fn clear(h: MapHeader, versions: &mut [u32], values: &[u64]) -> Changed<MapHeader, ()>
     ensures { sweep_of result versions.new values.now ≡ clear (lent_map versions.old values.now h) }
 {
-    if !secondary::shape(h, versions, values) {
-        return Sweep {
+    let view = MapView {
+        h,
+        versions,
+        values,
+    };
+    if !secondary::shape(view) {
+        return Changed {
             header: h,
-            answer: Swept::Refused(Refusal::Shape),
+            answer: Err(Refusal::Shape),
         };
     }
-    if !secondary_whole::is_whole(h, versions, values) {
-        return Sweep {
+    if !secondary_whole::is_whole(view) {
+        return Changed {
             header: h,
-            answer: Swept::Refused(Refusal::Damaged),
+            answer: Err(Refusal::Damaged),
         };
     }
     let g = drain_all(h, versions, values);
-    Sweep {
+    Changed {
         header: g,
-        answer: Swept::Done,
+        answer: Ok(()),
     }
 }

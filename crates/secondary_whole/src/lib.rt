@@ -3,33 +3,31 @@
 
 ghost use Rattle.std.specs.Prelude.{◌≡◌};
 ghost use Rattle.map.specs.Whole.{is_whole};
-ghost use Rattle.secondary.specs.Answers.{lent_map};
+ghost use Rattle.secondary.specs.Answers.{seen_map};
 
-use map::MapHeader;
-use secondary::shape;
+use secondary::{MapView, shape};
 
 // Whether slot 0 is vacant, every version is 0 or odd, and the count is true.
-pub fn is_whole(h: MapHeader, versions: &[u32], values: &[u64]) -> bool
-    ensures { result ≡ is_whole (lent_map versions.now values.now h) }
+#[tactic(auto, unfolding(map::specs::Whole::is_whole))]
+pub fn is_whole(view: MapView) -> bool
+    ensures { result ≡ is_whole (seen_map view.entry) }
 {
-    if !shape(h, versions, values) {
+    if !shape(view) {
         return false;
     }
-    if versions[0] != 0 {
+    if view.versions[0] != 0 {
         return false;
     }
-    let s = h.s as usize;
+    let s = view.h.s as usize;
     let mut n: u32 = 0;
-    let mut i = 0;
-    while i < s {
-        let v = versions[i];
+    for i in 0..s {
+        let v = view.versions[i];
         if v != 0 {
             if !keys::is_odd(v) {
                 return false;
             }
             n += 1;
         }
-        i += 1;
     }
-    n == h.count
+    n == view.h.count
 }

@@ -2,15 +2,15 @@
 // before each spell.
 #![tactic(auto)]
 
-use answers::{Answer, KEY};
-use dense::{Started, fresh};
+use answers::{Answer, Made};
+use dense::{View, fresh};
 use image_read::rebuild;
 use image_write::write_image;
 use keys::KeyData;
 use lines::{first, line_at, line_end};
-use made::{Made, insert, remove};
+use made::{insert, remove};
+use refusal::Refusal;
 use table::Header;
-use writing::Written;
 
 // The file descriptors of standard input and of standard output.
 const STDIN_FILENO: i32 = 0;
@@ -29,10 +29,10 @@ fn main() {
 fn spells(text: &[u8]) {
     let a = two(text);
     let b = remark(text, a);
-    tell(Answer::of(KEY, 8589934597));
+    tell(Answer::Key(8589934597));
     let c = remark(text, b);
-    tell(Answer::of(KEY, KeyData::null().as_ffi()));
-    tell(Answer::of(KEY, KeyData::new(4294967295, 3).as_ffi()));
+    tell(Answer::Key(KeyData::null().as_ffi()));
+    tell(Answer::Key(KeyData::new(4294967295, 3).as_ffi()));
     let d = remark(text, c);
     threads();
     let e = remark(text, d);
@@ -46,9 +46,18 @@ fn spells(text: &[u8]) {
 // The image of a table, as a line.
 fn imaged(h: Header, versions: &[u32], links: &[u32], keys: &[u64], values: &[u64]) {
     let mut image = [0u8; 16];
-    match write_image(h, versions, links, keys, values, &mut image) {
-        Written::End(end) => show_hexes(first(&image, end)),
-        Written::Refused(why) => tell(Answer::refused(why)),
+    match write_image(
+        View {
+            h,
+            versions,
+            links,
+            keys,
+            values,
+        },
+        &mut image,
+    ) {
+        Ok(end) => show_hexes(first(&image, end)),
+        Err(why) => tell(Answer::refused(why)),
     }
 }
 
@@ -88,12 +97,12 @@ fn threads() {
     let mut values = [9u64; 2];
     let bytes = [0x03u8, 0x00, 0x00, 0x02, 0x00, 0x04, 0x00];
     match rebuild(&mut versions, &mut links, &mut keys, &mut values, &bytes) {
-        Started::With(h) => {
-            tell(Answer::header(h));
+        Ok(h) => {
+            tell(Answer::Header(h));
             let made = insert(h, &mut versions, &mut links, &mut keys, &mut values, 7);
             tell(made.answer);
         }
-        Started::Refused(why) => tell(Answer::refused(why)),
+        Err(why) => tell(Answer::refused(why)),
     }
 }
 
@@ -120,24 +129,23 @@ fn tell(answer: Answer) {
 }
 
 // Tells what a call answered, and hands back the header.
-fn told(made: Made) -> Header {
-    let answer = made.answer;
-    tell(answer);
+fn told(made: Made<Header>) -> Header {
+    tell(made.answer);
     made.header
 }
 
-fn begun(answer: Started) {
+fn begun(answer: Result<Header, Refusal>) {
     tell(answers::started(answer));
 }
 
 fn show_hexes(list: &[u8]) {
     let mut text = [0u8; 80];
-    let end = lines::hexes(list, 0, &mut text);
+    let end = lines::row(list, 0, &mut text);
     io::write_all(STDOUT_FILENO, first(&text, end));
 }
 
 fn show_numbers(list: &[u64]) {
     let mut text = [0u8; 80];
-    let end = lines::numbers(list, 0, &mut text);
+    let end = lines::row(list, 0, &mut text);
     io::write_all(STDOUT_FILENO, first(&text, end));
 }

@@ -2,9 +2,9 @@
 use Rattle.std.specs.Prelude.{ℕ, List, [], ◌∷◌, ◌++◌}
 use Rattle.text.specs.Text.{decimal}
 use Rattle.lines.specs.Lines.{row}
-use Rattle.table.specs.declared.Header.{Header}
-use Rattle.map.specs.declared.MapHeader.{MapHeader}
-use Rattle.answers.specs.Kinds.{answered, headed, MAP_HEADER}
+use Rattle.table.specs.Table.{Table}
+use Rattle.map.specs.Map.{Map}
+use Rattle.answers.specs.declared.Answer.TheVariants as kinds
 use Rattle.answer_lines.specs.Answers.{line_of}
 
 -- the names, letter by letter
@@ -25,12 +25,12 @@ keys_text = 107 ∷ 101 ∷ 121 ∷ 115 ∷ []
 abbrev pub values_text : List ℕ
 values_text = 118 ∷ 97 ∷ 108 ∷ 117 ∷ 101 ∷ 115 ∷ []
 
-abbrev pub state_lines : Header → List ℕ → List ℕ → List ℕ → List ℕ → List (List ℕ)
-state_lines h versions links keys values =
-    line_of (headed h)
-    ++ ((versions_text ∷ row decimal versions)
-    ++ ((links_text ∷ row decimal links) ++ ((keys_text ∷ row decimal keys) ++ (values_text ∷ row decimal values))))
+abbrev pub state_lines : Table → List (List ℕ)
+state_lines t =
+    line_of (kinds.Header t.head)
+    ++ ((versions_text ∷ row decimal t.versions)
+    ++ ((links_text ∷ row decimal t.links) ++ ((keys_text ∷ row decimal t.keys) ++ (values_text ∷ row decimal t.values))))
 
-abbrev pub map_state_lines : MapHeader → List ℕ → List ℕ → List (List ℕ)
-map_state_lines h versions values =
-    line_of (answered MAP_HEADER h.s h.count 0) ++ ((versions_text ∷ row decimal versions) ++ (values_text ∷ row decimal values))
+abbrev pub map_state_lines : Map → List (List ℕ)
+map_state_lines m =
+    line_of (kinds.MapHeader m.head) ++ ((versions_text ∷ row decimal m.versions) ++ (values_text ∷ row decimal m.values))

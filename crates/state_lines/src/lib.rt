@@ -2,43 +2,33 @@
 #![tactic(auto)]
 
 ghost use Rattle.std.specs.Prelude.{◌≡◌};
+ghost use Rattle.dense.specs.Lent.{seen};
+ghost use Rattle.secondary.specs.Answers.{seen_map};
 ghost use Rattle.pieces.specs.Pieces.{page, wrote_all};
 ghost use Rattle.state_lines.specs.States.{state_lines, map_state_lines};
 
 use answer_lines::line;
-use answers::{Answer, MAP_HEADER};
-use lines::{named_numbers, named_words};
-use map::MapHeader;
-use table::Header;
+use answers::Answer;
+use dense::View;
+use lines::named_row;
+use secondary::MapView;
 
 // A dense table.
-pub fn state(
-    h: Header,
-    versions: &[u32],
-    links: &[u32],
-    keys: &[u64],
-    values: &[u64],
-    at: usize,
-    out: &mut [u8],
-) -> usize
-    ensures { page result out.new ≡ wrote_all (page at out.old) (state_lines h versions.now links.now keys.now values.now) }
+pub fn state(view: View, at: usize, out: &mut [u8]) -> usize
+    ensures { page result out.new ≡ wrote_all (page at out.old) (state_lines (seen view.entry)) }
 {
-    let a = line(Answer::header(h), at, out);
-    let b = named_words(b"versions", versions, a, out);
-    let c = named_words(b"links", links, b, out);
-    let d = named_numbers(b"keys", keys, c, out);
-    named_numbers(b"values", values, d, out)
+    let a = line(Answer::Header(view.h), at, out);
+    let b = named_row(b"versions", view.versions, a, out);
+    let c = named_row(b"links", view.links, b, out);
+    let d = named_row(b"keys", view.keys, c, out);
+    named_row(b"values", view.values, d, out)
 }
 
 // A secondary map.
-pub fn map_state(h: MapHeader, versions: &[u32], values: &[u64], at: usize, out: &mut [u8]) -> usize
-    ensures { page result out.new ≡ wrote_all (page at out.old) (map_state_lines h versions.now values.now) }
+pub fn map_state(view: MapView, at: usize, out: &mut [u8]) -> usize
+    ensures { page result out.new ≡ wrote_all (page at out.old) (map_state_lines (seen_map view.entry)) }
 {
-    let a = line(
-        Answer::new(MAP_HEADER, h.s as u64, h.count as u64, 0),
-        at,
-        out,
-    );
-    let b = named_words(b"versions", versions, a, out);
-    named_numbers(b"values", values, b, out)
+    let a = line(Answer::MapHeader(view.h), at, out);
+    let b = named_row(b"versions", view.versions, a, out);
+    named_row(b"values", view.values, b, out)
 }

@@ -1,18 +1,18 @@
 -- What a judge keeps of an image's records. Assumes nothing.
-use Rattle.std.specs.Prelude.{ℕ, ◌+◌, ◌-◌, ◌%◌, ◌^◌, cond, List, [], ◌∷◌, length, ◌==◌}
+use Rattle.std.specs.Prelude.{ℕ, ◌+◌, ◌-◌, ◌%◌, ◌^◌, cond, List, [], ◌∷◌, length, ◌==◌, Result, Ok, Err}
+use Rattle.refusal.specs.declared.Refusal.{Refusal}
 use Rattle.refusal.specs.Refusals.{number_of}
 use Rattle.writing.specs.Told.{Told, tells, refused, onward}
 use Rattle.records.specs.declared.Record.{Record}
 use Rattle.records.specs.declared.Record.TheVariants.{Vacant, Occupied}
 use Rattle.summaries.specs.declared.Summary.{Summary}
 use Rattle.summaries.specs.declared.Judged.{Judged}
-use Rattle.summaries.specs.declared.Judged.TheVariants.{Fine, Refused}
 use Rattle.records.specs.Records.{version_of, presence_of, count_of, list_of}
 
 -- the place of the first record, and what is kept of them all; or the number of a refusal
-abbrev pub judgement_of : Judged → Told (ℕ × Summary)
-judgement_of (Fine from s) = tells (from, s)
-judgement_of (Refused r) = refused (number_of r)
+abbrev pub judgement_of : Result Judged Refusal → Told (ℕ × Summary)
+judgement_of (Ok j) = tells (j.from, j.summary)
+judgement_of (Err r) = refused (number_of r)
 
 -- 1 for a record that contradicts itself: "version odd without value or even with one"
 abbrev pub wrong_of : Record → ℕ

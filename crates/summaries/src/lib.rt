@@ -7,23 +7,20 @@ ghost use Rattle.numbers_read.specs.Reading.{reading_of};
 ghost use Rattle.records.specs.Records.{count_of};
 ghost use Rattle.summaries.specs.Summaries.{judgement_of, blank, noted_as, noted, judged_from, judged_of};
 
-use numbers_read::Number;
-use records::{Record, RecordRead, read_record};
+use numbers_read::{Number, read_u32};
+use records::{Record, read_record};
 use refusal::Refusal;
 
 // The slot count that an image starts with, at most `most`.
-pub fn read_count(bytes: &[u8], most: usize) -> Number
+#[tactic(auto, unfolding(records::specs::Records::count_of), using(std::proofs::lemmas::Bool::Decides::nat_tests))]
+pub fn read_count(bytes: &[u8], most: usize) -> Result<Number, Refusal>
     ensures { reading_of result ≡ count_of bytes.now most }
 {
-    match numbers_read::read_u32(bytes, 0) {
-        Number::Refused(why) => Number::Refused(why),
-        Number::Read { value, next } => {
-            if (most as u64) < value {
-                return Number::Refused(Refusal::TooMany);
-            }
-            Number::Read { value, next }
-        }
+    let count = read_u32(bytes, 0)?;
+    if (most as u64) < count.value {
+        return Err(Refusal::TooMany);
     }
+    Ok(count)
 }
 
 // What is kept of the records that have been read: how many they are, the first one's version and presence, and how many of the
@@ -53,6 +50,7 @@ impl Summary {
 }
 
 // A record's numbers noted. A count beyond 32 bits wraps, which no image brings about.
+#[tactic(auto, unfolding(crate::specs::Summaries::noted_as), using(std::proofs::lemmas::Bool::Decides::nat_tests))]
 fn note(summary: Summary, version: u32, presence: u32, wrong: u32) -> Summary
     ensures { result ≡ noted_as summary version presence wrong }
 {
@@ -76,6 +74,7 @@ fn note(summary: Summary, version: u32, presence: u32, wrong: u32) -> Summary
 }
 
 // What is kept once a record more has been read.
+#[tactic(auto, unfolding(crate::specs::Summaries::noted))]
 pub fn judge_record(summary: Summary, slot: Record) -> Summary
     ensures { result ≡ noted summary slot }
 {
@@ -85,46 +84,35 @@ pub fn judge_record(summary: Summary, slot: Record) -> Summary
     }
 }
 
-// What is to be said of an image's records.
+// What is to be said of an image's records: the place of the first one, and what is kept of them all.
 #[derive(Clone, Copy)]
-pub enum Judged {
-    // The place of the first one, and what is kept of them all.
-    Fine { from: usize, summary: Summary },
-    // The first fault: 10, 11 or 16 as met, 12 after the count, 15 after the last record.
-    Refused(Refusal),
+pub struct Judged {
+    pub from: usize,
+    pub summary: Summary,
 }
 
 // The records from a place on, so many of them, to the end of the bytes.
-fn judge_from(bytes: &[u8], from: usize, count: u32) -> Judged
+fn judge_from(bytes: &[u8], from: usize, count: u32) -> Result<Judged, Refusal>
     ensures { judgement_of result ≡ judged_from count bytes.now from }
 {
     let mut at = from;
-    let mut left = count;
     let mut summary = Summary::new();
-    while 0 < left {
-        match read_record(bytes, at) {
-            RecordRead::Refused(why) => {
-                return Judged::Refused(why);
-            }
-            RecordRead::Read { slot, next } => {
-                summary = judge_record(summary, slot);
-                at = next;
-                left -= 1;
-            }
-        }
+    for _ in 0..count {
+        let read = read_record(bytes, at)?;
+        summary = judge_record(summary, read.slot);
+        at = read.next;
     }
     if at < bytes.len() {
-        return Judged::Refused(Refusal::Trailing);
+        return Err(Refusal::Trailing);
     }
-    Judged::Fine { from, summary }
+    Ok(Judged { from, summary })
 }
 
-// The faults of an image of at most `most` slots, in their order; or what is kept of its records.
-pub fn judge_records(bytes: &[u8], most: usize) -> Judged
+// What is kept of the records of an image of at most `most` slots; or its first fault: 10, 11 or 16 as met, 12 after the count, 15 after the last record.
+#[tactic(auto, unfolding(crate::specs::Summaries::judged_of))]
+pub fn judge_records(bytes: &[u8], most: usize) -> Result<Judged, Refusal>
     ensures { judgement_of result ≡ judged_of bytes.now most }
 {
-    match read_count(bytes, most) {
-        Number::Refused(why) => Judged::Refused(why),
-        Number::Read { value, next } => judge_from(bytes, next, value as u32),
-    }
+    let count = read_count(bytes, most)?;
+    judge_from(bytes, count.next, count.value as u32)
 }

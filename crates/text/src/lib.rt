@@ -8,7 +8,7 @@ ghost use Rattle.text.specs.Text.{decimal, key_text};
 
 use keys::KeyData;
 use refusal::Refusal;
-use writing::{Written, has_room, write_bytes};
+use writing::{has_room, write_bytes};
 
 // How many decimal digits a number has.
 fn decimal_len(number: u64) -> usize
@@ -17,7 +17,7 @@ fn decimal_len(number: u64) -> usize
     let mut count = 1;
     let mut rest = number / 10;
     while 0 < rest {
-        rest = rest / 10;
+        rest /= 10;
         count += 1;
     }
     count
@@ -34,25 +34,27 @@ fn put_decimal(number: u64, at: usize, end: usize, out: &mut [u8])
     while 0 < rest {
         i -= 1;
         out[i] = b'0' + (rest % 10) as u8;
-        rest = rest / 10;
+        rest /= 10;
     }
 }
 
 // Writes a number in decimal from a place on.
-pub fn write_decimal(number: u64, at: usize, out: &mut [u8]) -> Written
+#[tactic(auto, unfolding(writing::specs::Writing::written), using(std::proofs::lemmas::Bool::Decides::nat_tests))]
+pub fn write_decimal(number: u64, at: usize, out: &mut [u8]) -> Result<usize, Refusal>
     ensures { outcome result out.new ≡ written at (decimal number) out.old }
 {
     let count = decimal_len(number);
     if !has_room(at, count, out.len()) {
-        return Written::Refused(Refusal::Short);
+        return Err(Refusal::Short);
     }
     let end = at + count;
     put_decimal(number, at, end, out);
-    Written::End(end)
+    Ok(end)
 }
 
 // Writes a key from a place on: `null`, or its index, `v` and its version.
-pub fn write_key(key: KeyData, at: usize, out: &mut [u8]) -> Written
+#[tactic(auto, using(std::proofs::lemmas::Bool::Decides::nat_tests))]
+pub fn write_key(key: KeyData, at: usize, out: &mut [u8]) -> Result<usize, Refusal>
     ensures { outcome result out.new ≡ written at (key_text key) out.old }
 {
     if key.is_null() {
@@ -62,12 +64,12 @@ pub fn write_key(key: KeyData, at: usize, out: &mut [u8]) -> Written
     let version = decimal_len(key.version as u64);
     let count = index + 1 + version;
     if !has_room(at, count, out.len()) {
-        return Written::Refused(Refusal::Short);
+        return Err(Refusal::Short);
     }
     let letter = at + index;
     let end = at + count;
     put_decimal(key.idx as u64, at, letter, out);
     out[letter] = b'v';
     put_decimal(key.version as u64, letter + 1, end, out);
-    Written::End(end)
+    Ok(end)
 }

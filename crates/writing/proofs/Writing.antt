@@ -2,6 +2,7 @@
 use mathlib.Core.Path.{◌≡◌, refl, sym, ap₂, ◌∙◌}
 use mathlib.Core.Bool.{Bool, true, false, cond}
 use mathlib.Core.List.{List, ◌++◌}
+use Rattle.std.specs.Prelude.{Result, Ok, Err}
 use Prim.Native.Nat.{ℕ, ◌+◌, ◌≤◌, ◌<◌}
 use native.Mathlib.Omega.{arith}
 use lib.Dec.{leb}
@@ -12,8 +13,6 @@ use Rattle.lists.proofs.Put.{put-put, length-put}
 use Rattle.refusal.specs.declared.Refusal.{Refusal}
 use Rattle.refusal.specs.Refusals.{number_of}
 use Rattle.writing.specs.Told.{Told, tells, refused}
-use Rattle.writing.specs.declared.Written.{Written}
-use Rattle.writing.specs.declared.Written.TheVariants.{End, Refused}
 use Rattle.writing.specs.Writing.{told_of, written, written_after}
 use Rattle.writing.proofs.Told.{never, refused-same, both}
 
@@ -53,10 +52,10 @@ module _ (at : ℕ) (t b d : List ℕ) (n : ℕ) where
 
 -- ---- after other bytes
 
-pub then_end : (t b : List ℕ) {w : Written} {n : ℕ} → w ≡ End n → written n t b ≡ written_after (told_of w) t b
+pub then_end : (t b : List ℕ) {w : Result ℕ Refusal} {n : ℕ} → w ≡ Ok n → written n t b ≡ written_after (told_of w) t b
 then_end t b e = rw e
 
-pub then_refused : (t b : List ℕ) {w : Written} {r : Refusal} → w ≡ Refused r → ◌≡◌ {A = Told ℕ × List ℕ} (refused (number_of r), b) (written_after (told_of w) t b)
+pub then_refused : (t b : List ℕ) {w : Result ℕ Refusal} {r : Refusal} → w ≡ Err r → ◌≡◌ {A = Told ℕ × List ℕ} (refused (number_of r), b) (written_after (told_of w) t b)
 then_refused t b e = rw e
 
 -- what is written after what fits is written with it

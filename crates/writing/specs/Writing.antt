@@ -1,18 +1,17 @@
 -- Bytes written into a lent buffer (the rules, refusal 6: "output array or buffer too short"). Assumes nothing.
-use Rattle.std.specs.Prelude.{ℕ, ◌+◌, cond, List, leb, length}
+use Rattle.std.specs.Prelude.{ℕ, ◌+◌, cond, List, leb, length, Result, Ok, Err}
 use Rattle.lists.specs.Put.{put}
+use Rattle.refusal.specs.declared.Refusal.{Refusal}
 use Rattle.refusal.specs.Refusals.{number_of}
 use Rattle.writing.specs.Told.{Told, tells, refused}
-use Rattle.writing.specs.declared.Written.{Written}
-use Rattle.writing.specs.declared.Written.TheVariants.{End, Refused}
 
 -- what an answer says: the place after what was written, or the number of a refusal
-abbrev pub told_of : Written → Told ℕ
-told_of (End n) = tells n
-told_of (Refused r) = refused (number_of r)
+abbrev pub told_of : Result ℕ Refusal → Told ℕ
+told_of (Ok n) = tells n
+told_of (Err r) = refused (number_of r)
 
 -- an outcome: what the answer says, and the buffer after
-abbrev pub outcome : Written → List ℕ → Told ℕ × List ℕ
+abbrev pub outcome : Result ℕ Refusal → List ℕ → Told ℕ × List ℕ
 outcome r b = (told_of r, b)
 
 -- the bytes t asked into the buffer b from a place on: the place after them, and the buffer with them put in, every other byte as it was;

@@ -11,14 +11,14 @@ returns-then-not-lengths_fit c = simp (refuted c.lengths_fit.ensures c.if-not-le
 pub returns-then-s-lt1 : goal.returns-then-s-lt1
 returns-then-s-lt1 c = shape_no_slot _ (confirmed c.lengths_fit.ensures c.if-not-lengths_fit.false) c.if-s-lt1.true
 
-pub returns-then-keys-s : goal.returns-then-keys-s
-returns-then-keys-s c = shape_too_many _ (confirmed c.lengths_fit.ensures c.if-not-lengths_fit.false) c.if-s-lt1.false c.if-keys-s.true
+pub returns-then-view-s : goal.returns-then-view-s
+returns-then-view-s c = shape_too_many _ (confirmed c.lengths_fit.ensures c.if-not-lengths_fit.false) c.if-s-lt1.false c.if-view-s.true
 
 pub returns-then-h : goal.returns-then-h
-returns-then-h c = shape_crowded _ (confirmed c.lengths_fit.ensures c.if-not-lengths_fit.false) c.if-s-lt1.false c.if-keys-s.false c.if-h.true
+returns-then-h c = shape_crowded _ (confirmed c.lengths_fit.ensures c.if-not-lengths_fit.false) c.if-s-lt1.false c.if-view-s.false c.if-h.true
 
 pub returns-then-h-lt1 : goal.returns-then-h-lt1
-returns-then-h-lt1 c = shape-head-low _ (confirmed c.lengths_fit.ensures c.if-not-lengths_fit.false) c.if-s-lt1.false c.if-keys-s.false c.if-h.false c.if-h-lt1.true
+returns-then-h-lt1 c = shape-head-low _ (confirmed c.lengths_fit.ensures c.if-not-lengths_fit.false) c.if-s-lt1.false c.if-view-s.false c.if-h.false c.if-h-lt1.true
 
 pub returns : goal.returns
-returns c = shape_by_head _ (confirmed c.lengths_fit.ensures c.if-not-lengths_fit.false) c.if-s-lt1.false c.if-keys-s.false c.if-h.false c.if-h-lt1.false
+returns c = shape_by_head _ (confirmed c.lengths_fit.ensures c.if-not-lengths_fit.false) c.if-s-lt1.false c.if-view-s.false c.if-h.false c.if-h-lt1.false

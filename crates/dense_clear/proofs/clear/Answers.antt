@@ -1,18 +1,16 @@
 -- `dense_clear::clear` meets its contract.
-use mathlib.Core.Path.{sym, ap, ◌∙◌}
-use native.Mathlib.Omega.{arith}
+use Rattle.std.proofs.Common.{rules}
 use Rattle.table.specs.Sweeps.{clear}
-use Rattle.dense.specs.Answers.{done_said}
 use Rattle.dense_sweep.proofs.Asking.{asked-refused, asked-done, asked-sound}
 use Rattle.dense_clear.proofs.clear.Goals as goal
 
-pub drain_all-g-requires : goal.drain_all-g-requires
-drain_all-g-requires c = asked-sound _ (ap done_said (sym c.in-Done.is) ∙ c.asked.ensures) (λ i. omega (arith, c.slice_known-1.given i))
+pub drain_all-requires : goal.drain_all-requires
+drain_all-requires c = asked-sound _ c.in-Ok.ensures (λ i. search rules)
 
-pub returns-in-Done : goal.returns-in-Done
+pub returns-in-Ok : goal.returns-in-Ok
 unfolding clear
-returns-in-Done c = asked-done _ (ap done_said (sym c.in-Done.is) ∙ c.asked.ensures) _ _ c.drain_all-g.ensures
+returns-in-Ok c = asked-done _ c.in-Ok.ensures _ _ c.drain_all.ensures
 
-pub returns-in-Refused : goal.returns-in-Refused
+pub returns-in-Err : goal.returns-in-Err
 unfolding clear
-returns-in-Refused c = asked-refused _ _ _ (ap done_said (sym c.in-Refused.is) ∙ c.asked.ensures)
+returns-in-Err c = asked-refused _ _ _ c.in-Err.ensures

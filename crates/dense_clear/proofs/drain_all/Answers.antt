@@ -18,11 +18,5 @@ loop-g-preserved c =
     draining_goes _ _ _ c.loop-g.invariant (omega (arith, c.loop-g-test.true))
     (ap (λ (o : Out). o.1) c.drain_step-step.ensures)
 
-pub shape_of-versions : goal.shape_of-versions
-shape_of-versions c = c.loop-g.invariant.swept.lengths.0
-
-pub shape_of-links : goal.shape_of-links
-shape_of-links c = c.loop-g.invariant.swept.lengths.1
-
 pub returns : goal.returns
 returns c = draining_ends _ _ c.loop-g.invariant c.loop-g-test.false

@@ -4,13 +4,13 @@ use Rattle.table.proofs.Judged.{roomy}
 use Rattle.dense.proofs.Answers.{issued-key, issued-refused}
 use Rattle.dense_enter.proofs.insert.Goals as goal
 
-pub fill-g-requires : goal.fill-g-requires
-fill-g-requires c = roomy _ _ (issued-key _ c.next_key.ensures c.in-Key.is)
+pub fill-header-requires : goal.fill-header-requires
+fill-header-requires c = roomy _ _ (issued-key _ c.next_key-answer.ensures c.in-Ok.is)
 
-pub returns-in-Key : goal.returns-in-Key
+pub returns-in-Ok : goal.returns-in-Ok
 unfolding insert
-returns-in-Key c = simp (issued-key _ c.next_key.ensures c.in-Key.is, ← c.fill-g.ensures)
+returns-in-Ok c = simp (issued-key _ c.next_key-answer.ensures c.in-Ok.is, ← c.fill-header.ensures)
 
-pub returns-in-Refused : goal.returns-in-Refused
+pub returns-in-Err : goal.returns-in-Err
 unfolding insert
-returns-in-Refused c = simp (issued-refused _ c.next_key.ensures c.in-Refused.is)
+returns-in-Err c = simp (issued-refused _ c.next_key-answer.ensures c.in-Err.is, c.in-Err.is)

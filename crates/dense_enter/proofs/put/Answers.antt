@@ -1,27 +1,30 @@
 -- `dense_enter::put` meets its contract: the value at the judged place is overwritten.
+use Rattle.std.proofs.lemmas.Result.{err_from_is_err_and}
 use native.Mathlib.Omega.{arith}
 use Rattle.table.specs.Table.{with_value}
 use Rattle.table.specs.Calls.{put}
 use Rattle.table.proofs.Judged.{standing}
-use Rattle.dense.proofs.Answers.{placed_at}
+use Rattle.dense.proofs.Answers.{judged-ok}
 use Rattle.dense_enter.proofs.put.Goals as goal
 
+pub returns-in_err-p : goal.returns-in_err-p
+unfolding put
+returns-in_err-p c =
+    let p = err_from_is_err_and c.from_residual.result c.from_residual.ensures.1 in
+    rw (p.1, p.2) (simp (← c.in_err-p.ensures))
+
 pub offset_bounds-values-p : goal.offset_bounds-values-p
-offset_bounds-values-p c = omega (arith, standing _ _ _ (placed_at c.place.ensures c.in-At.is))
+offset_bounds-values-p c = omega (arith, standing _ _ _ (judged-ok c.place.ensures c.in_ok-p.was))
 
 pub bounds-values-p : goal.bounds-values-p
-bounds-values-p c = omega (arith, standing _ _ _ (placed_at c.place.ensures c.in-At.is))
+bounds-values-p c = omega (arith, standing _ _ _ (judged-ok c.place.ensures c.in_ok-p.was))
 
-pub offset_bounds-values-p-in-At : goal.offset_bounds-values-p-in-At
-offset_bounds-values-p-in-At c = omega (arith, standing _ _ _ (placed_at c.place.ensures c.in-At.is))
+pub offset_bounds-values-p-2 : goal.offset_bounds-values-p-2
+offset_bounds-values-p-2 c = omega (arith, standing _ _ _ (judged-ok c.place.ensures c.in_ok-p.was))
 
-pub bounds-values-p-in-At : goal.bounds-values-p-in-At
-bounds-values-p-in-At c = omega (arith, standing _ _ _ (placed_at c.place.ensures c.in-At.is))
+pub bounds-values-p-2 : goal.bounds-values-p-2
+bounds-values-p-2 c = omega (arith, standing _ _ _ (judged-ok c.place.ensures c.in_ok-p.was))
 
-pub returns-in-At : goal.returns-in-At
+pub returns : goal.returns
 unfolding put with_value
-returns-in-At c = simp (placed_at c.place.ensures c.in-At.is)
-
-pub returns-in-Refused : goal.returns-in-Refused
-unfolding put
-returns-in-Refused c = simp (← c.place.ensures, c.in-Refused.is)
+returns c = simp (← c.in_ok-p.ensures)

@@ -22,12 +22,6 @@ returns-then-h-g c = walk_high _ _ _ _ c.loop-g-test.true c.loop-g.invariant.0 c
 pub returns-then-is_odd : goal.returns-then-is_odd
 returns-then-is_odd c = walk_odd _ _ _ _ c.loop-g-test.true c.loop-g.invariant.0 c.if-met-h.false c.if-g-lt1.false c.if-h-g.false (told-odd _ c.is_odd.ensures c.if-is_odd.true) ∙ c.loop-g.invariant.1
 
-pub overflow_add-met : goal.overflow_add-met
-overflow_add-met c = omega (arith, c.if-met-h.false)
-
-pub loop-g-smaller : goal.loop-g-smaller
-loop-g-smaller c = omega (arith, c.if-met-h.false)
-
 pub loop-g-preserved : goal.loop-g-preserved
 loop-g-preserved c = (
   omega (arith, c.if-met-h.false),

@@ -1,18 +1,16 @@
 -- `dense_retain::retain` meets its contract.
-use mathlib.Core.Path.{sym, ap, ◌∙◌}
-use native.Mathlib.Omega.{arith}
+use Rattle.std.proofs.Common.{rules}
 use Rattle.table.specs.Sweeps.{retain}
-use Rattle.dense.specs.Answers.{done_said}
 use Rattle.dense_sweep.proofs.Asking.{asked-refused, asked-done, asked-sound}
 use Rattle.dense_retain.proofs.retain.Goals as goal
 
-pub sift-g-requires : goal.sift-g-requires
-sift-g-requires c = asked-sound _ (ap done_said (sym c.in-Done.is) ∙ c.asked.ensures) (λ i. omega (arith, c.slice_known-1.given i))
+pub sift-requires : goal.sift-requires
+sift-requires c = asked-sound _ c.in-Ok.ensures (λ i. search rules)
 
-pub returns-in-Done : goal.returns-in-Done
+pub returns-in-Ok : goal.returns-in-Ok
 unfolding retain
-returns-in-Done c = asked-done _ (ap done_said (sym c.in-Done.is) ∙ c.asked.ensures) _ _ c.sift-g.ensures
+returns-in-Ok c = asked-done _ c.in-Ok.ensures _ _ c.sift.ensures
 
-pub returns-in-Refused : goal.returns-in-Refused
+pub returns-in-Err : goal.returns-in-Err
 unfolding retain
-returns-in-Refused c = asked-refused _ _ _ (ap done_said (sym c.in-Refused.is) ∙ c.asked.ensures)
+returns-in-Err c = asked-refused _ _ _ c.in-Err.ensures

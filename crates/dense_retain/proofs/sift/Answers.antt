@@ -27,17 +27,5 @@ loop-p-preserved c =
     sifting_drops _ _ _ _ c.loop-p.invariant c.loop-p-test.true _ (ap (λ (o : Out). o.1) c.remove-removed.ensures)
     (rule_told _ _ _ c.from_ffi.ensures c.keeps.ensures c.if-keeps.false)
 
-pub shape_of-versions : goal.shape_of-versions
-shape_of-versions c = c.loop-p.invariant.swept.lengths.0
-
-pub shape_of-links : goal.shape_of-links
-shape_of-links c = c.loop-p.invariant.swept.lengths.1
-
-pub shape_of-keys : goal.shape_of-keys
-shape_of-keys c = c.loop-p.invariant.swept.lengths.2
-
-pub shape_of-values : goal.shape_of-values
-shape_of-values c = c.loop-p.invariant.swept.lengths.3
-
 pub returns : goal.returns
 returns c = sifting_ends _ _ _ _ c.loop-p.invariant c.loop-p-test.false

@@ -1,11 +1,12 @@
 -- `dense_sound::is_sound` meets its contract.
-use Rattle.lists.proofs.Tests.{refuted, confirmed}
-use Rattle.table.proofs.Shape.{shape}
+use mathlib.Core.Path.{◌∙◌, ap}
+use Rattle.table.specs.Sound.{is_sound}
 use Rattle.table.proofs.Checking.{check_shape}
+use Rattle.dense.specs.Lent.{seen}
 use Rattle.dense_sound.proofs.is_sound.Goals as goal
 
-pub returns-then-not-has_shape : goal.returns-then-not-has_shape
-returns-then-not-has_shape c = check_shape _ (refuted c.has_shape.ensures c.if-not-has_shape.true)
+pub returns-in-Ok : goal.returns-in-Ok
+returns-in-Ok c = c.is_sound_in.ensures ∙ ap (λ v. is_sound (seen v)) c.in-Ok.ensures
 
-pub is_sound_in-requires : goal.is_sound_in-requires
-is_sound_in-requires c = shape _ (confirmed c.has_shape.ensures c.if-not-has_shape.false)
+pub returns-in-Err : goal.returns-in-Err
+returns-in-Err c = check_shape _ c.in-Err.ensures.1

@@ -7,5 +7,6 @@ use Rattle.dense_sound.proofs.is_sound_in.Goals as goal
 
 pub returns : goal.returns
 returns c =
-    c.free_list_holds.ensures ∙ sym (holds_list _ c.requires refl)
-    ∙ check_list _ c.requires (omega arith) (omega arith) (confirmed c.are_home.ensures c.if-not-are_home.false) c.odd_slots.ensures (omega arith) refl
+    let sh = c.args.table.shape in
+    c.free_list_holds.ensures ∙ sym (holds_list _ sh refl)
+    ∙ check_list _ sh (omega arith) (omega arith) (confirmed c.are_home.ensures c.if-not-are_home.false) c.odd_slots.ensures (omega arith) refl

@@ -1,6 +1,6 @@
 -- `take_byte` meets its contract: the limit less the value, shifted right, is the largest byte that may stand there.
 use Prim.Native.Nat.{ℕ, ◌+◌, ◌-◌, ◌*◌, ◌/◌, ◌%◌, ◌^◌, ◌≤◌, ◌<◌}
-use mathlib.Core.Path.{◌≡◌, sym, ap, ◌∙◌}
+use mathlib.Core.Path.{◌≡◌, sym}
 use native.Mathlib.Nat.{div-lt_iff_lt-mul, le-div_iff_mul-le, mod-eq_of_lt, mul-le-mul_right}
 use native.Mathlib.Omega.{arith}
 use Rattle.std.proofs.Common.{rules}
@@ -56,36 +56,28 @@ pub returns-then-limit-value-2 : goal.returns-then-limit-value-2
 returns-then-limit-value-2 c =
     let a = c.args in
     let low : least a.state.groups ≤ a.b = grind (arith, least-none, least-some) in
-    let low-wide : least a.state.groups ≤ c.wide-group.result = rw c.wide-group.ensures low in
-    large a.limit a.state.value a.state.groups c.wide-group.result low-wide (search rules) (search rules) c.if-limit-value-2.true
-    ∙ ap (take_of a.limit a.state) c.wide-group.ensures
+    large a.limit a.state.value a.state.groups a.b low (search rules) (search rules) c.if-limit-value-2.true
 
 pub overflow_add-result : goal.overflow_add-result
 overflow_add-result c =
     let a = c.args in
     let low : least a.state.groups ≤ a.b = grind (arith, least-none, least-some) in
-    let low-wide : least a.state.groups ≤ c.wide-group.result = rw c.wide-group.ensures low in
-    record { fits = room a.limit a.state.value a.state.groups c.wide-group.result low-wide (search rules) (search rules) c.if-limit-value-2.false c.wide-group.result (omega arith) }
+    record { fits = room a.limit a.state.value a.state.groups a.b low (search rules) (search rules) c.if-limit-value-2.false a.b (omega arith) }
 
 pub returns-then-group-lt128 : goal.returns-then-group-lt128
 returns-then-group-lt128 c =
     let a = c.args in
     let low : least a.state.groups ≤ a.b = grind (arith, least-none, least-some) in
-    let low-wide : least a.state.groups ≤ c.wide-group.result = rw c.wide-group.ensures low in
-    ends a.limit a.state.value a.state.groups c.wide-group.result low-wide (search rules) (search rules) c.if-limit-value-2.false c.if-group-lt128.true
-    ∙ ap (take_of a.limit a.state) c.wide-group.ensures
+    ends a.limit a.state.value a.state.groups a.b low (search rules) (search rules) c.if-limit-value-2.false c.if-group-lt128.true
 
 pub overflow_add-result-2 : goal.overflow_add-result-2
 overflow_add-result-2 c =
     let a = c.args in
     let low : least a.state.groups ≤ a.b = grind (arith, least-none, least-some) in
-    let low-wide : least a.state.groups ≤ c.wide-group.result = rw c.wide-group.ensures low in
-    record { fits = room a.limit a.state.value a.state.groups c.wide-group.result low-wide (search rules) (search rules) c.if-limit-value-2.false (c.wide-group.result % 128) (omega arith) }
+    record { fits = room a.limit a.state.value a.state.groups a.b low (search rules) (search rules) c.if-limit-value-2.false (a.b % 128) (omega arith) }
 
 pub returns : goal.returns
 returns c =
     let a = c.args in
     let low : least a.state.groups ≤ a.b = grind (arith, least-none, least-some) in
-    let low-wide : least a.state.groups ≤ c.wide-group.result = rw c.wide-group.ensures low in
-    goes a.limit a.state.value a.state.groups c.wide-group.result low-wide (search rules) (search rules) c.if-limit-value-2.false c.if-group-lt128.false
-    ∙ ap (take_of a.limit a.state) c.wide-group.ensures
+    goes a.limit a.state.value a.state.groups a.b low (search rules) (search rules) c.if-limit-value-2.false c.if-group-lt128.false

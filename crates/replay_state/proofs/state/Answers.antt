@@ -4,4 +4,4 @@ use Rattle.replay_state.proofs.state.Goals as goal
 
 pub returns : goal.returns
 unfolding digest
-returns c = rw (c.mix_u64-2.ensures, c.mix_u64.ensures, c.mix_u32-slots.ensures, c.mix_u32.ensures, c.head.ensures, c.bit-sound.ensures, c.is_sound.ensures)
+returns c = rw (c.mix_all-3.ensures, c.mix_all-2.ensures, c.mix_all-slots.ensures, c.mix_all.ensures, c.head.ensures, c.is_sound-sound.ensures)

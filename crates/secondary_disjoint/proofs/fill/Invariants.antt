@@ -1,13 +1,10 @@
 -- `secondary_disjoint::fill` meets its contract: each turn puts one slot into the output.
 use mathlib.Core.Path.{◌≡◌}
-use Prim.Native.Nat.{◌+◌, ◌-◌, ◌≤◌}
-use lib.ListN.{length, drop}
+use Prim.Native.Nat.{◌+◌}
+use lib.ListN.{drop}
 use Rattle.lists.specs.Put.{put}
 use Rattle.map.specs.Refused.{indexes}
 use Rattle.secondary_disjoint.proofs.fill.Given as goal
 
 abbrev pub invariant-loop-n : goal.invariant-loop-n
-invariant-loop-n l = (l.n ≤ length l.keys) × (length l.out ≡ length l.initial.out) × (put l.out (0 + l.n) (drop l.n (indexes l.keys)) ≡ put l.initial.out 0 (indexes l.keys))
-
-abbrev pub decreases-loop-n : goal.decreases-loop-n
-decreases-loop-n l = length l.keys - l.n
+invariant-loop-n l = put l.out (0 + l.n) (drop l.n (indexes l.keys)) ≡ put l.initial.out 0 (indexes l.keys)

@@ -1,21 +1,25 @@
--- `secondary_enter::grow` meets its contract: what is left to be made vacant gives the grown map.
-use mathlib.Core.Path.{refl, sym, ◌∙◌}
+-- `secondary_enter::grow` meets its contract: the slots that are made vacant give the grown map.
+use mathlib.Core.Path.{◌≡◌, sym, ap, ap₂, ◌∙◌}
+use mathlib.Core.List.{List, ◌++◌}
+use Prim.Native.Nat.{ℕ, ◌+◌}
 use native.Mathlib.Omega.{arith}
-use lib.ListN.{length-set}
-use Rattle.map.proofs.Grown.{zeros_turn, zeros_end, grown-below, grown_is}
+use lib.ListN.{take, drop, replicate, length-replicate, length-take, length-drop}
+use lib.Seq.{drop-drop}
+use borrow.Rule.Slice.PartMut.{put_mid}
+use Rattle.lists.specs.Put.{put}
+use Rattle.map.proofs.Grown.{grown-below, grown_is}
 use Rattle.secondary_enter.proofs.grow.Goals as goal
+
+-- a part of the versions filled with 0 is so many zeros put in its place
+filled : (vs ys : List ℕ) (at n : ℕ) → ys ≡ replicate n 0 → put_mid at n vs ys ≡ put vs at (replicate n 0)
+filled vs ys at n e =
+    ap₂ (λ (zs ws : List ℕ). take at vs ++ (zs ++ ws)) e
+    (drop-drop n at vs ∙ ap (λ (k : ℕ). drop (at + k) vs) (sym (length-replicate {A = ℕ} n 0)))
 
 pub returns-then-index-h : goal.returns-then-index-h
 returns-then-index-h c = sym (grown-below _ _ c.if-index-h.true)
 
-pub loop-at-init : goal.loop-at-init
-loop-at-init c = (refl, refl)
-
-pub loop-at-preserved : goal.loop-at-preserved
-loop-at-preserved c = (simp length-set c.loop-at.invariant.0, zeros_turn _ _ _ c.loop-at-test.true (omega arith) ∙ c.loop-at.invariant.1)
-
-pub shape_of-versions : goal.shape_of-versions
-shape_of-versions c = c.loop-at.invariant.0
-
 pub returns : goal.returns
-returns c = grown_is _ _ _ c.if-index-h.false (sym (zeros_end _ _ _ c.loop-at-test.false) ∙ c.loop-at.invariant.1)
+returns c =
+    grown_is _ _ _ c.if-index-h.false
+    (filled _ _ _ _ (c.fill.ensures.after (λ y e. e) ∙ ap (λ (n : ℕ). replicate n 0) (simp (length-take, length-drop) (omega arith))))

@@ -2,15 +2,10 @@
 use Rattle.std.proofs.Common.{rules}
 use mathlib.Core.Path.{sym, ◌∙◌}
 use native.Mathlib.Omega.{arith}
-use Rattle.lists.proofs.Tests.{refuted, confirmed}
-use Rattle.map.specs.Calls.{fate}
+use Rattle.lists.proofs.Tests.{confirmed}
 use Rattle.map.proofs.Shaped.{shaped}
 use Rattle.map.proofs.Fates.{fate-null, fate-below, fate_above}
 use Rattle.secondary_judge.proofs.judge_insert.Goals as goal
-
-pub returns-then-not-shape : goal.returns-then-not-shape
-unfolding fate
-returns-then-not-shape c = simp (refuted c.shape.ensures c.if-not-shape.true)
 
 pub returns-then-is_null : goal.returns-then-is_null
 returns-then-is_null c = sym (fate-null _ _ (confirmed c.shape.ensures c.if-not-shape.false) (sym
@@ -24,14 +19,14 @@ overflow_add-key c = omega (
       c.if-not-shape.false),
 )
 
-pub returns-then-key-h : goal.returns-then-key-h
-returns-then-key-h c = c.settle.ensures ∙ sym (fate-below _ _ (confirmed
+pub returns-then-key-view : goal.returns-then-key-view
+returns-then-key-view c = c.settle.ensures ∙ sym (fate-below _ _ (confirmed
     c.shape.ensures
     c.if-not-shape.false) (sym
     c.is_null.ensures
     ∙ c.if-is_null.false)
-    (search rules) c.if-versions-i.false
-    c.if-key-h.true)
+    (search rules) c.if-view-i.false
+    c.if-key-view.true)
 
 pub returns : goal.returns
 returns c = c.settle-2.ensures ∙ sym (fate_above _ _ (confirmed
@@ -39,5 +34,5 @@ returns c = c.settle-2.ensures ∙ sym (fate_above _ _ (confirmed
     c.if-not-shape.false) (sym
     c.is_null.ensures
     ∙ c.if-is_null.false)
-    (search rules) c.if-versions-i.false
-    c.if-key-h.false)
+    (search rules) c.if-view-i.false
+    c.if-key-view.false)

@@ -1,20 +1,11 @@
--- `secondary_look::lookup` meets its contract: the key's slot is judged, and its value read.
+-- `secondary_look::lookup` meets its contract: the slot of a key that is there is one of the arrays.
+use mathlib.Core.Path.{sym}
 use native.Mathlib.Omega.{arith}
-use Rattle.map.specs.Calls.{lookup}
 use Rattle.map.proofs.Stands.{stands}
-use Rattle.secondary.proofs.Answers.{found_at}
 use Rattle.secondary_look.proofs.lookup.Goals as goal
 
-pub offset_bounds-values-i : goal.offset_bounds-values-i
-offset_bounds-values-i c = let h = stands _ _ _ (found_at c.slot.ensures c.in-At.is) in omega (arith, h)
+pub offset_bounds-view-i : goal.offset_bounds-view-i
+offset_bounds-view-i c = omega (arith, stands _ _ _ (sym c.in_ok-i.ensures))
 
-pub bounds-values-i : goal.bounds-values-i
-bounds-values-i c = let h = stands _ _ _ (found_at c.slot.ensures c.in-At.is) in omega (arith, h)
-
-pub returns-in-At : goal.returns-in-At
-unfolding lookup
-returns-in-At c = simp (found_at c.slot.ensures c.in-At.is)
-
-pub returns-in-Refused : goal.returns-in-Refused
-unfolding lookup
-returns-in-Refused c = simp (← c.slot.ensures, c.in-Refused.is)
+pub bounds-view-i : goal.bounds-view-i
+bounds-view-i c = omega (arith, stands _ _ _ (sym c.in_ok-i.ensures))

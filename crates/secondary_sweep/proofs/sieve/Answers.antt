@@ -1,4 +1,5 @@
 -- `secondary_sweep::sieve` meets its contract: a vacant slot and a kept element stay, and another is removed by its key.
+use Rattle.std.proofs.Common.{rules}
 use mathlib.Core.Path.{sym, ap, ◌∙◌}
 use native.Mathlib.Omega.{arith}
 use Rattle.keys.specs.Keys.{number_of}
@@ -21,15 +22,8 @@ returns-then-keeps c = sym (sieved_kept _ _ _ (sym (rw c.new-key.ensures at c.ke
 
 pub returns : goal.returns
 unfolding key_at
-returns c = ap (λ (o : Out). o.1) c.remove-d.ensures
-    ∙ sieved_removed _ _ _ _
-    c.requires.0
-    c.requires.1
-    c.if-v-eq0.false (omega (
-      arith,
-      c.slice_known-1.given
-          c.args.i,
-    ))
-    (sym (rw c.new-key.ensures at
-    c.keeps.ensures) ∙ c.if-keeps.false)
+returns c =
+    ap (λ (o : Out). o.1) c.remove-d.ensures
+    ∙ sieved_removed _ _ _ _ c.requires.0 c.requires.1 c.if-v-eq0.false (search rules)
+    (sym (rw c.new-key.ensures at c.keeps.ensures) ∙ c.if-keeps.false)
     (c.as_ffi.ensures ∙ ap number_of c.new-key.ensures)

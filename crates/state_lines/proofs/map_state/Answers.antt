@@ -3,15 +3,15 @@ use mathlib.Core.List.{◌∷◌, ◌++◌}
 use Rattle.text.specs.Text.{decimal}
 use Rattle.lines.specs.Lines.{row}
 use Rattle.pieces.proofs.Pieces.{wrote_all_then}
-use Rattle.answers.specs.Kinds.{answered, MAP_HEADER}
+use Rattle.answers.specs.declared.Answer.TheVariants.{MapHeader}
 use Rattle.answer_lines.specs.Answers.{line_of}
 use Rattle.state_lines.specs.States.{versions_text, values_text}
 use Rattle.state_lines.proofs.map_state.Goals as goal
 
 pub returns : goal.returns
 returns c =
-    let s = c.args in
-    let versions = versions_text ∷ row decimal s.versions.now in
-    let values = values_text ∷ row decimal s.values.now in
-    wrote_all_then _ _ _ (line_of (answered MAP_HEADER s.h.s s.h.count 0)) (versions ++ values) (rw c.new.ensures at c.line-a.ensures)
-    (wrote_all_then _ _ _ versions values c.named_words-b.ensures c.named_numbers.ensures)
+    let m = c.args.view in
+    let versions = versions_text ∷ row decimal m.versions.now in
+    let values = values_text ∷ row decimal m.values.now in
+    wrote_all_then _ _ _ (line_of (MapHeader m.h)) (versions ++ values) c.line-a.ensures
+    (wrote_all_then _ _ _ versions values c.named_row-b.ensures c.named_row.ensures)

@@ -3,7 +3,7 @@ use mathlib.Core.Path.{◌≡◌, sym, ap, ◌∙◌}
 use mathlib.Core.Bool.{false}
 use Prim.Native.Nat.{ℕ, ◌+◌, ◌≤◌}
 use native.Mathlib.Omega.{arith}
-use lib.ListN.{length, length-set}
+use lib.ListN.{length}
 use borrow.Author.Tests.{leb-true}
 use Rattle.lists.proofs.Tests.{refuted, confirmed}
 use Rattle.keys.specs.Keys.{is_null}
@@ -35,40 +35,6 @@ returns-then-not-has_room c =
     let long : c.decimal_len-index.result + 1 + c.decimal_len-version.result ≡ length (key_text c.args.key) = omega (arith, key-text-length c.args.key plain, c.decimal_len-index.ensures, c.decimal_len-version.ensures) in
     let s = c.args in
     no_room-written s.at _ (key_text s.key) s.out.now long (refuted c.has_room.ensures c.if-not-has_room.true)
-
-pub overflow_add-letter : goal.overflow_add-letter
-overflow_add-letter c =
-    let room : c.args.at + (c.decimal_len-index.result + 1 + c.decimal_len-version.result) ≤ length c.args.out.now = leb-true _ _ (confirmed c.has_room.ensures c.if-not-has_room.false) in
-    omega (arith, room)
-
-pub overflow_add-end : goal.overflow_add-end
-overflow_add-end c =
-    let room : c.args.at + (c.decimal_len-index.result + 1 + c.decimal_len-version.result) ≤ length c.args.out.now = leb-true _ _ (confirmed c.has_room.ensures c.if-not-has_room.false) in
-    omega (arith, room)
-
-pub put_decimal-requires : goal.put_decimal-requires
-put_decimal-requires c =
-    let room : c.args.at + (c.decimal_len-index.result + 1 + c.decimal_len-version.result) ≤ length c.args.out.now = leb-true _ _ (confirmed c.has_room.ensures c.if-not-has_room.false) in
-    (ap (λ (n : ℕ). c.args.at + n) c.decimal_len-index.ensures, omega (arith, room))
-
-pub bounds-out-letter : goal.bounds-out-letter
-bounds-out-letter c =
-    let room : c.args.at + (c.decimal_len-index.result + 1 + c.decimal_len-version.result) ≤ length c.args.out.now = leb-true _ _ (confirmed c.has_room.ensures c.if-not-has_room.false) in
-    omega (arith, room)
-
-pub overflow_add-letter-2 : goal.overflow_add-letter-2
-overflow_add-letter-2 c =
-    let room : c.args.at + (c.decimal_len-index.result + 1 + c.decimal_len-version.result) ≤ length c.args.out.now = leb-true _ _ (confirmed c.has_room.ensures c.if-not-has_room.false) in
-    omega (arith, room)
-
-pub put_decimal-requires-2 : goal.put_decimal-requires-2
-put_decimal-requires-2 c =
-    let room : c.args.at + (c.decimal_len-index.result + 1 + c.decimal_len-version.result) ≤ length c.args.out.now = leb-true _ _ (confirmed c.has_room.ensures c.if-not-has_room.false) in
-    (omega (arith, c.decimal_len-version.ensures), simp length-set (omega (arith, room, c.put_decimal.auto.out)))
-
-pub shape_of-out : goal.shape_of-out
-shape_of-out c =
-    simp length-set at c.put_decimal-2.auto.out ∙ c.put_decimal.auto.out
 
 pub returns : goal.returns
 returns c =

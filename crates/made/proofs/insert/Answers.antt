@@ -1,7 +1,0 @@
--- The call's own contract, with the answer told.
-use Rattle.answers.specs.Kinds.{done}
-use Rattle.made.proofs.Told.{told}
-use Rattle.made.proofs.insert.Goals as goal
-
-pub returns : goal.returns
-returns c = told done c.issued.ensures c.insert-inserted.ensures
