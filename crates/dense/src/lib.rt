@@ -1,4 +1,5 @@
-// The dense table over lent arrays: the answers of its calls, fresh, and the judgements that the other calls begin with: shape, and where a key stands.
+// The dense table over lent arrays: the view that a call which only looks is lent, fresh, and the judgements that the other calls begin with: shape, and
+// where a key stands.
 #![tactic(auto)]
 
 ghost use Rattle.std.specs.Prelude.{◌≡◌, List, ℕ, false, MatchResult};

@@ -39,8 +39,15 @@ fn show_numbers(list: &[u64]) {
 
 // The keys, then the values.
 fn show_lists(view: View) {
-    show_numbers(dense_look::keys_as_slice(view));
-    show_numbers(dense_look::values_as_slice(view));
+    let View {
+        h,
+        versions,
+        links,
+        keys,
+        values,
+    } = view;
+    show_numbers(dense_look::keys_as_slice(h, versions, links, keys, values));
+    show_numbers(dense_look::values_as_slice(h, versions, links, keys, values));
 }
 
 // A line of any other letter is no call.

@@ -1,4 +1,4 @@
-// The dense table over lent arrays: the calls that store a value. Each judges first, on shared slices, and then only stores.
+// The dense table over lent arrays: the calls that store a value. Each judges first, on a view, and then only stores.
 #![tactic(auto)]
 
 ghost use Rattle.std.specs.Prelude.{◌≡◌};

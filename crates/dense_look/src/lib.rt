@@ -3,11 +3,12 @@
 
 ghost use Rattle.std.specs.Prelude.{◌≡◌};
 ghost use Rattle.table.specs.Calls.{len, is_empty, listed_keys, listed_values, lookup};
-ghost use Rattle.dense.specs.Lent.{seen};
+ghost use Rattle.dense.specs.Lent.{seen, table};
 ghost use Rattle.dense.specs.Answers.{value_said, count_said, truth_said};
 
 use dense::{View, has_shape, place, with_shape};
 use refusal::Refusal;
+use table::Header;
 
 pub fn len(view: View) -> Result<u32, Refusal>
     ensures { count_said result ≡ len (seen view.entry) }
@@ -23,28 +24,50 @@ pub fn is_empty(view: View) -> Result<bool, Refusal>
     Ok(table.view.h.n == 0)
 }
 
-// The live keys, as the first n of the caller's own array.
-pub fn keys_as_slice<'a>(view: View<'a>) -> &'a [u64]
-    ensures { (result.now ≡ listed_keys (seen view.entry)) × (result.ref_ptr ≡ view.entry.keys.ref_ptr) }
+// The live keys, as the first n of the caller's own array. That array alone stays lent, so these two take no view, whose arrays are lent together.
+pub fn keys_as_slice<'a>(
+    h: Header,
+    versions: &[u32],
+    links: &[u32],
+    keys: &'a [u64],
+    values: &[u64],
+) -> &'a [u64]
+    ensures { (result.now ≡ listed_keys (table versions.now links.now keys.now values.now h)) × (result.ref_ptr ≡ keys.entry.ref_ptr) }
 {
-    let View { h, keys, .. } = view;
+    let view = View {
+        h,
+        versions,
+        links,
+        keys,
+        values,
+    };
     if !has_shape(view) {
         return &keys[..0];
     }
-    let n = h.n as usize;
-    &keys[..n]
+    &keys[..h.n as usize]
 }
 
 // The live values, beside their keys.
-pub fn values_as_slice<'a>(view: View<'a>) -> &'a [u64]
-    ensures { (result.now ≡ listed_values (seen view.entry)) × (result.ref_ptr ≡ view.entry.values.ref_ptr) }
+pub fn values_as_slice<'a>(
+    h: Header,
+    versions: &[u32],
+    links: &[u32],
+    keys: &[u64],
+    values: &'a [u64],
+) -> &'a [u64]
+    ensures { (result.now ≡ listed_values (table versions.now links.now keys.now values.now h)) × (result.ref_ptr ≡ values.entry.ref_ptr) }
 {
-    let View { h, values, .. } = view;
+    let view = View {
+        h,
+        versions,
+        links,
+        keys,
+        values,
+    };
     if !has_shape(view) {
         return &values[..0];
     }
-    let n = h.n as usize;
-    &values[..n]
+    &values[..h.n as usize]
 }
 
 pub fn lookup(view: View, k: u64) -> Result<u64, Refusal>

@@ -1,6 +1,6 @@
 // Keys: the index of a slot and the version that the slot had when the key was issued.
-// Every number given as a key is read by `from_ffi`, and every key is packed by `as_ffi`; only the replays, whose lists have keys bent in one field, take a
-// number apart besides.
+// Every number given as a key is read by `from_ffi`, and every key is packed by `as_ffi`; only the replays, whose lists have keys bent in one field, put a
+// number together or take one apart besides.
 #![tactic(auto)]
 
 ghost use Rattle.std.specs.Prelude.{◌≡◌, ◌%◌, ◌==◌};
@@ -73,14 +73,14 @@ impl KeyData {
 pub fn version_up(version: u32) -> u32
     ensures { result ≡ up version }
 {
-    std::num::wrapping_add_u32(version, 1)
+    version.wrapping_add(1)
 }
 
 // The version that a reattach gives back: from 0 it wraps to 4,294,967,295.
 pub fn version_down(version: u32) -> u32
     ensures { result ≡ down version }
 {
-    std::num::wrapping_sub_u32(version, 1)
+    version.wrapping_sub(1)
 }
 
 // The version that a slot has once it is taken: the lowest bit set.

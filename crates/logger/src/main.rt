@@ -18,15 +18,22 @@ use table::Header;
 const STDOUT_FILENO: i32 = 1;
 
 fn main() {
+    if let Err(why) = day() {
+        tell(Answer::refused(why));
+    }
+}
+
+// One day. The first refusal ends it.
+fn day() -> Result<(), Refusal> {
     let mut versions = [0u32; 9];
     let mut links = [0u32; 9];
     let mut keys = [0u64; 8];
     let mut values = [0u64; 8];
-    let h = begun(fresh(&mut versions, &mut links, &keys, &values));
+    let h = fresh(&mut versions, &mut links, &keys, &values)?;
 
     // contactors 3 and 5 run acid
     let third = insert(h, &mut versions, &mut links, &mut keys, &mut values, 3621);
-    let third_key = opened(third.answer);
+    let third_key = opened(third.answer)?;
     let fifth = insert(
         third.header,
         &mut versions,
@@ -35,7 +42,7 @@ fn main() {
         &mut values,
         5640,
     );
-    let fifth_key = opened(fifth.answer);
+    let fifth_key = opened(fifth.answer)?;
 
     // the reading of 3 falls further
     let g = fifth.header;
@@ -54,32 +61,19 @@ fn main() {
     );
     found(closed.answer);
     read(closed.header, &versions, &links, &keys, &values, fifth_key);
-    evening(closed.header, &versions, &links, &keys, &values, third_key);
+    evening(closed.header, &versions, &links, &keys, &values, third_key)
 }
 
 // Tells the reading of a spell.
 fn read(h: Header, versions: &[u32], links: &[u32], keys: &[u64], values: &[u64], spell: u64) {
-    found(lookup(
-        View {
-            h,
-            versions,
-            links,
-            keys,
-            values,
-        },
-        spell,
-    ));
-}
-
-// The header of a table that has begun. With a refusal there is none, and three zeros stand for it: every call refuses them.
-fn begun(answer: Result<Header, Refusal>) -> Header {
-    match answer {
-        Ok(h) => h,
-        Err(why) => {
-            tell(Answer::refused(why));
-            Header { n: 0, s: 0, f: 0 }
-        }
-    }
+    let view = View {
+        h,
+        versions,
+        links,
+        keys,
+        values,
+    };
+    found(lookup(view, spell));
 }
 
 fn found(answer: Result<u64, Refusal>) {
@@ -87,50 +81,45 @@ fn found(answer: Result<u64, Refusal>) {
     tell(answers::value(answer));
 }
 
-// The number of the key of a spell just opened. With a refusal there is none, and the null key stands for it: it is never live.
-fn opened(answer: Result<u64, Refusal>) -> u64 {
-    match answer {
-        Ok(k) => {
-            say(b"opened ");
-            tell(answers::issued(answer));
-            k
-        }
-        Err(why) => {
-            tell(Answer::refused(why));
-            0x1_ffff_ffff
-        }
-    }
+// The number of the key of a spell just opened.
+fn opened(answer: Result<u64, Refusal>) -> Result<u64, Refusal> {
+    let key = answer?;
+    say(b"opened ");
+    tell(Answer::Key(key));
+    Ok(key)
 }
 
 // Writes the day's image and hands it to the next day.
-fn evening(h: Header, versions: &[u32], links: &[u32], keys: &[u64], values: &[u64], spell: u64) {
+fn evening(
+    h: Header,
+    versions: &[u32],
+    links: &[u32],
+    keys: &[u64],
+    values: &[u64],
+    spell: u64,
+) -> Result<(), Refusal> {
     let mut out = [0u8; 64];
-    match write_image(
-        View {
-            h,
-            versions,
-            links,
-            keys,
-            values,
-        },
-        &mut out,
-    ) {
-        Ok(end) => next_day(first(&out, end), spell),
-        Err(why) => tell(Answer::refused(why)),
-    }
+    let view = View {
+        h,
+        versions,
+        links,
+        keys,
+        values,
+    };
+    let end = write_image(view, &mut out)?;
+    next_day(first(&out, end), spell)
 }
 
 // Reads the image back into a table of its own: the spell that is still open answers to its key.
-fn next_day(image: &[u8], spell: u64) {
+fn next_day(image: &[u8], spell: u64) -> Result<(), Refusal> {
     show(image);
     let mut versions = [0u32; 9];
     let mut links = [0u32; 9];
     let mut keys = [0u64; 8];
     let mut values = [0u64; 8];
-    match rebuild(&mut versions, &mut links, &mut keys, &mut values, image) {
-        Ok(h) => read(h, &versions, &links, &keys, &values, spell),
-        Err(why) => tell(Answer::refused(why)),
-    }
+    let h = rebuild(&mut versions, &mut links, &mut keys, &mut values, image)?;
+    read(h, &versions, &links, &keys, &values, spell);
+    Ok(())
 }
 
 // ---- what the program prints

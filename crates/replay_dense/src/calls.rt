@@ -8,8 +8,21 @@ use replay_state::state;
 use table::Header;
 
 fn lists(view: View) -> u64 {
-    let k = replay::mix_all(0, dense_look::keys_as_slice(view));
-    replay::mix_all(k, dense_look::values_as_slice(view))
+    let View {
+        h,
+        versions,
+        links,
+        keys,
+        values,
+    } = view;
+    let k = replay::mix_all(
+        0,
+        dense_look::keys_as_slice(h, versions, links, keys, values),
+    );
+    replay::mix_all(
+        k,
+        dense_look::values_as_slice(h, versions, links, keys, values),
+    )
 }
 
 // The calls that only look. Any other letter is no call.

@@ -16,6 +16,12 @@ use refusal::{Changed, Refusal};
 use script_look::{Answer, look};
 use table::Header;
 
+fn told(header: Header, answer: Result<Answer, Refusal>) -> Changed<Header, Answer>
+    ensures { (result.header ≡ header) × (result.answer ≡ answer) }
+{
+    Changed { header, answer }
+}
+
 // Does what a line asks for.
 #[tactic(auto, unfolding(script_look::specs::Answers::answered, table::specs::Steps::step), using(script_look::proofs::Looks::acts_looked))]
 pub fn act(
@@ -30,45 +36,30 @@ pub fn act(
 {
     match asked {
         Ok(Command::Insert(x)) => {
-            let Changed { header, answer } = insert(h, versions, links, keys, values, x);
-            Changed {
-                header,
-                answer: answer.map(Answer::Key),
-            }
+            let did = insert(h, versions, links, keys, values, x);
+            told(did.header, did.answer.map(Answer::Key))
         }
         Ok(Command::Remove(k)) => {
-            let Changed { header, answer } = remove(h, versions, links, keys, values, k);
-            Changed {
-                header,
-                answer: answer.map(Answer::Value),
-            }
+            let did = remove(h, versions, links, keys, values, k);
+            told(did.header, did.answer.map(Answer::Value))
         }
         Ok(Command::Detach(k)) => {
-            let Changed { header, answer } = detach(h, versions, links, keys, values, k);
-            Changed {
-                header,
-                answer: answer.map(Answer::Value),
-            }
+            let did = detach(h, versions, links, keys, values, k);
+            told(did.header, did.answer.map(Answer::Value))
         }
         Ok(Command::Reattach(k, x)) => {
-            let Changed { header, answer } = reattach(h, versions, links, keys, values, k, x);
-            Changed {
-                header,
-                answer: answer.map(|_| Answer::Done),
-            }
+            let did = reattach(h, versions, links, keys, values, k, x);
+            told(did.header, did.answer.map(|_| Answer::Done))
         }
-        Ok(Command::Get(_)) | Ok(Command::Len) | Err(_) => Changed {
-            header: h,
-            answer: look(
-                View {
-                    h,
-                    versions,
-                    links,
-                    keys,
-                    values,
-                },
-                asked,
-            ),
-        },
+        Ok(Command::Get(_)) | Ok(Command::Len) | Err(_) => {
+            let view = View {
+                h,
+                versions,
+                links,
+                keys,
+                values,
+            };
+            told(h, look(view, asked))
+        }
     }
 }

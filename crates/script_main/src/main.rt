@@ -57,10 +57,7 @@ fn print(end: Result<usize, Refusal>, out: &[u8]) -> Option<()> {
 fn read_part(rt: &HostRuntime, buffer: &mut [u8]) -> Option<usize>
     ensures { IfSome result (λ n. n ≤ length buffer.new) }
 {
-    match rt.stdin().read(buffer) {
-        Ok(n) => Some(n),
-        Err(_) => None,
-    }
+    rt.stdin().read(buffer).ok()
 }
 
 // Reads once, and answers the lines that end there; at the end of the input, the last one. None where nothing more is to be read.
@@ -117,6 +114,7 @@ fn run(
         header: h,
         count: 0,
     };
+    // No input has so many parts; a loop has to end.
     for _ in 0..u64::MAX {
         let next = turn(
             rt,

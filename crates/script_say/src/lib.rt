@@ -25,34 +25,31 @@ fn end_line(w: Result<usize, Refusal>, out: &mut [u8]) -> Result<usize, Refusal>
 }
 
 // A refusal's text.
-fn write_refusal(refusal: Refusal, at: usize, out: &mut [u8]) -> Result<usize, Refusal>
-    requires { at + room ≤ length out.old }
-    ensures { outcome result out.new ≡ written at (refused_text ++ decimal (number_of refusal)) out.old }
+fn write_refusal(refusal: Refusal, out: &mut [u8; ROOM]) -> Result<usize, Refusal>
+    ensures { outcome result out.new ≡ written 0 (refused_text ++ decimal (number_of refusal)) out.old }
 {
-    let n = write_bytes(b"refused ", at, out)?;
+    let n = write_bytes(b"refused ", 0, out)?;
     write_decimal(refusal.number() as u64, n, out)
 }
 
-// Writes an answer's text, from a place of a buffer that has the room for its line on.
-fn write_text(answer: Result<Answer, Refusal>, at: usize, out: &mut [u8]) -> Result<usize, Refusal>
-    requires { at + room ≤ length out.old }
-    ensures { (outcome result out.new ≡ written at (answer_text (answer_said answer)) out.old) × (length (line_out (answer_said answer)) ≤ room) }
+// Writes an answer's text into a buffer that has the room for its line.
+fn write_text(answer: Result<Answer, Refusal>, out: &mut [u8; ROOM]) -> Result<usize, Refusal>
+    ensures { (outcome result out.new ≡ written 0 (answer_text (answer_said answer)) out.old) × (length (line_out (answer_said answer)) ≤ room) }
 {
     match answer {
-        Ok(Answer::Key(k)) => write_key(KeyData::from_ffi(k), at, out),
-        Ok(Answer::Value(x)) => write_decimal(x, at, out),
-        Ok(Answer::Done) => write_bytes(b"ok", at, out),
-        Ok(Answer::Count(n)) => write_decimal(n as u64, at, out),
-        Err(why) => write_refusal(why, at, out),
+        Ok(Answer::Key(k)) => write_key(KeyData::from_ffi(k), 0, out),
+        Ok(Answer::Value(x)) => write_decimal(x, 0, out),
+        Ok(Answer::Done) => write_bytes(b"ok", 0, out),
+        Ok(Answer::Count(n)) => write_decimal(n as u64, 0, out),
+        Err(why) => write_refusal(why, out),
     }
 }
 
 // The same as one line.
-fn write_line(answer: Result<Answer, Refusal>, at: usize, out: &mut [u8]) -> Result<usize, Refusal>
-    requires { at + room ≤ length out.old }
-    ensures { (outcome result out.new ≡ lined (answer_said answer) at out.old) × (length (line_out (answer_said answer)) ≤ room) }
+fn write_line(answer: Result<Answer, Refusal>, out: &mut [u8; ROOM]) -> Result<usize, Refusal>
+    ensures { (outcome result out.new ≡ lined (answer_said answer) 0 out.old) × (length (line_out (answer_said answer)) ≤ room) }
 {
-    let w = write_text(answer, at, out);
+    let w = write_text(answer, out);
     end_line(w, out)
 }
 
@@ -62,6 +59,6 @@ pub fn say(answer: Result<Answer, Refusal>, at: usize, out: &mut [u8]) -> Result
     ensures { (outcome result out.new ≡ written at (line_out (answer_said answer)) out.old) × (length (line_out (answer_said answer)) ≤ room) }
 {
     let mut line = [0u8; ROOM];
-    let n = write_line(answer, 0, &mut line)?;
+    let n = write_line(answer, &mut line)?;
     write_bytes(&line[..n], at, out)
 }

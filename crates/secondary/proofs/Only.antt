@@ -2,19 +2,22 @@
 -- Assumes nothing.
 use mathlib.Core.Path.{◌≡◌, sym, ap, ap₂, ◌∙◌}
 use mathlib.Core.Logic.{◌≢◌}
-use mathlib.Core.Bool.{Bool}
+use mathlib.Core.Bool.{Bool, false}
 use mathlib.Core.List.{List}
 use Prim.Native.Nat.{ℕ}
-use Rattle.std.specs.Prelude.{Option, Some, None, Result, Ok, Err}
+use Rattle.std.specs.Prelude.{Option, Some, None, Result, Ok, Err, MatchResult}
 use Rattle.refusal.specs.declared.Refusal.{Refusal}
 use Rattle.refusal.specs.declared.Changed.{Changed}
 use Rattle.refusal.specs.Refusals.{number_of}
 use Rattle.refusal.proofs.Numbers.{number_one_to_one}
 use Rattle.secondary.specs.declared.Element.{Element}
+use Rattle.secondary.specs.declared.MapView.{MapView}
+use Rattle.secondary.specs.declared.judged.MapShaped.{MapShaped}
 use Rattle.map.specs.declared.MapHeader.{MapHeader}
-use Rattle.map.specs.Map.{Map}
+use Rattle.map.specs.Map.{Map, has_shape}
 use Rattle.map.specs.Calls.{Said, said_value, said_count, said_truth, said_element, refused, found, fails, Out}
-use Rattle.secondary.specs.Answers.{reading, length_of, truth_of, found_of, got_of, stepped, step_of}
+use Rattle.secondary.proofs.Seen.{shape_of_view}
+use Rattle.secondary.specs.Answers.{seen_map, reading, length_of, truth_of, found_of, got_of, stepped, step_of}
 
 -- ---- the readings
 
@@ -84,3 +87,19 @@ changed_only {A} read one vs us xs ys o r q e f =
       ap (λ (m : Map). m.versions) p.1,
       ap (λ (m : Map). m.values) p.1,
     )
+
+-- ---- the judgement of a map's shape
+
+-- what `with_shape` hands back: the view, or the refusal
+abbrev pub viewed : Result MapShaped Refusal → Result MapView Refusal
+viewed (Ok map) = Ok map.view
+viewed (Err r) = Err r
+
+abbrev pub Shapes : MapView → Result MapShaped Refusal → Type 0
+Shapes v a = MatchResult a (λ map. map.view ≡ v) (λ why. (number_of why ≡ 1) × (has_shape (seen_map v) ≡ false))
+
+pub shaped_only : (v : MapView) (a b : Result MapShaped Refusal) → Shapes v a → Shapes v b → viewed a ≡ viewed b
+shaped_only v (Ok m) (Ok n) p q = ap Ok (p ∙ sym q)
+shaped_only v (Ok m) (Err q) p e = let z = sym (shape_of_view m p) ∙ e.1 in cc
+shaped_only v (Err r) (Ok n) e p = let z = sym (shape_of_view n p) ∙ e.1 in cc
+shaped_only v (Err r) (Err q) e f = ap Err (number_one_to_one r q (e.0 ∙ sym f.0))

@@ -2,11 +2,15 @@
 // This crate has the lent map that the calls look at, the shape that each of them asks for first, and the count.
 #![tactic(auto, unfolding(map::specs::Map::lengths_fit, map::specs::Map::has_shape, map::specs::Calls::len, map::specs::Calls::is_empty), using(std::proofs::lemmas::Bool::Decides::nat_tests))]
 
-ghost use Rattle.std.specs.Prelude.{◌≡◌};
+ghost use Rattle.std.specs.Prelude.{◌≡◌, false, MatchResult};
+ghost use Rattle.refusal.specs.Refusals.{number_of};
 ghost use Rattle.map.specs.Map.{lengths_fit, has_shape};
 ghost use Rattle.map.specs.Calls.{len, is_empty};
 ghost use Rattle.secondary.specs.Answers.{seen_map, length_of, truth_of};
 
+mod judged;
+
+pub use judged::MapShaped;
 use map::MapHeader;
 use refusal::Refusal;
 
@@ -57,22 +61,28 @@ pub fn shape(view: MapView) -> bool
     s <= view.versions.len()
 }
 
+// The same map, known to have its shape; else refusal 1.
+pub fn with_shape(view: MapView<'_>) -> Result<MapShaped<'_>, Refusal>
+    ensures { MatchResult result (λ map. map.view ≡ view.entry) (λ why. (number_of why ≡ 1) × (has_shape (seen_map view.entry) ≡ false)) }
+{
+    if !shape(view) {
+        return Err(Refusal::Shape);
+    }
+    Ok(MapShaped { view })
+}
+
 // ---- the count
 
 pub fn len(view: MapView) -> Result<u32, Refusal>
     ensures { length_of result ≡ len (seen_map view.entry) }
 {
-    if !shape(view) {
-        return Err(Refusal::Shape);
-    }
-    Ok(view.h.count)
+    let map = with_shape(view)?;
+    Ok(map.view.h.count)
 }
 
 pub fn is_empty(view: MapView) -> Result<bool, Refusal>
     ensures { truth_of result ≡ is_empty (seen_map view.entry) }
 {
-    if !shape(view) {
-        return Err(Refusal::Shape);
-    }
-    Ok(view.h.count == 0)
+    let map = with_shape(view)?;
+    Ok(map.view.h.count == 0)
 }

@@ -130,13 +130,10 @@ pub(crate) fn call(
     output: usize,
     line: Line,
 ) -> MapHeader {
-    let op = line.op;
     let key = line.key_of_value();
-    if op == b'i' {
-        return told(insert(h, versions, values, key, line.c));
+    match line.op {
+        b'i' => told(insert(h, versions, values, key, line.c)),
+        b'p' => told(put(h, versions, values, key, line.c)),
+        _ => keep(h, versions, values, wanted, output, line),
     }
-    if op == b'p' {
-        return told(put(h, versions, values, key, line.c));
-    }
-    keep(h, versions, values, wanted, output, line)
 }

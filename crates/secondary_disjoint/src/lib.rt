@@ -93,9 +93,7 @@ pub fn disjoint(
         versions,
         values,
     };
-    if !secondary::shape(view) {
-        return Err(Refusal::Shape);
-    }
+    secondary::with_shape(view)?;
     let marked = mark(h, versions, values, keys);
     unmark(versions, keys, marked.count);
     marked.answer?;

@@ -9,7 +9,7 @@ ghost use Rattle.secondary_judge.specs.Fates.{fate_of};
 
 use keys::KeyData;
 use refusal::Refusal;
-use secondary::{MapView, shape};
+use secondary::{MapView, with_shape};
 
 // What an insert comes to. Storing leaves so many elements.
 #[derive(Clone, Copy)]
@@ -54,9 +54,8 @@ fn settle(slots: u32, elements: u32, there: u32, version: u32) -> Result<Fate, R
 pub fn judge_insert(view: MapView, key: KeyData) -> Result<Fate, Refusal>
     ensures { fate_of result ≡ fate (seen_map view.entry) key }
 {
-    if !shape(view) {
-        return Err(Refusal::Shape);
-    }
+    let map = with_shape(view)?;
+    let MapView { h, versions, .. } = map.view;
     if key.is_null() {
         return Ok(Fate::Ignores);
     }
@@ -64,11 +63,11 @@ pub fn judge_insert(view: MapView, key: KeyData) -> Result<Fate, Refusal>
         return Err(Refusal::IndexZero);
     }
     let i = key.idx as usize;
-    if view.versions.len() <= i {
+    if versions.len() <= i {
         return Err(Refusal::Beyond);
     }
-    if key.idx < view.h.s {
-        return settle(view.h.s, view.h.count, view.versions[i], key.version);
+    if key.idx < h.s {
+        return settle(h.s, h.count, versions[i], key.version);
     }
-    settle(key.idx + 1, view.h.count, 0, key.version)
+    settle(key.idx + 1, h.count, 0, key.version)
 }

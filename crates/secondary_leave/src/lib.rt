@@ -1,4 +1,4 @@
-// The secondary map's calls that take an element out. Each judges first, by a function on shared slices, and stores only what it has accepted.
+// The secondary map's calls that take an element out. Each judges first, by a function on a view, and stores only what it has accepted.
 #![tactic(auto)]
 
 ghost use Rattle.std.specs.Prelude.{◌≡◌, ◌≤◌, ◌<◌, length};

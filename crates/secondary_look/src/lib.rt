@@ -1,7 +1,7 @@
 // The secondary map's calls that look at one key, and store nothing.
 #![tactic(auto)]
 
-ghost use Rattle.std.specs.Prelude.{◌≡◌, ◌≤◌, length};
+ghost use Rattle.std.specs.Prelude.{◌≡◌};
 ghost use Rattle.refusal.specs.Refusals.{number_of};
 ghost use Rattle.map.specs.Map.{is_there, absent};
 ghost use Rattle.map.specs.Calls.{contains, slot, lookup};
@@ -9,49 +9,43 @@ ghost use Rattle.secondary.specs.Answers.{seen_map, truth_of, found_of, got_of};
 
 use keys::KeyData;
 use refusal::Refusal;
-use secondary::{MapView, shape};
+use secondary::{MapShaped, MapView, with_shape};
 
 #[tactic(auto, unfolding(map::specs::Map::is_there), using(std::proofs::lemmas::Bool::Decides::nat_tests))]
-fn is_there(view: MapView, key: KeyData) -> bool
-    requires { view.h.s ≤ length view.versions.now }
-    ensures { result ≡ is_there (seen_map view.entry) key.idx key.version }
+fn is_there(map: MapShaped, key: KeyData) -> bool
+    ensures { result ≡ is_there (seen_map map.entry.view) key.idx key.version }
 {
-    if view.h.s <= key.idx {
+    let MapView { h, versions, .. } = map.view;
+    if h.s <= key.idx {
         return false;
     }
     let i = key.idx as usize;
-    view.versions[i] == key.version
+    versions[i] == key.version
 }
 
-#[tactic(auto, unfolding(map::specs::Calls::contains))]
 pub fn contains_key(view: MapView, k: u64) -> Result<bool, Refusal>
     ensures { truth_of result ≡ contains (seen_map view.entry) k }
 {
-    if !shape(view) {
-        return Err(Refusal::Shape);
-    }
-    Ok(is_there(view, KeyData::from_ffi(k)))
+    let map = with_shape(view)?;
+    Ok(is_there(map, KeyData::from_ffi(k)))
 }
 
 // The refusal of a key that is not there. It uses nothing that it is given, as its definition says.
 #[tactic(auto, unfolding(map::specs::Map::absent))]
-fn absent(_view: MapView, _key: KeyData) -> Refusal
-    ensures { number_of result ≡ absent (seen_map _view.entry) _key.idx _key.version }
+fn absent(_map: MapShaped, _key: KeyData) -> Refusal
+    ensures { number_of result ≡ absent (seen_map _map.entry.view) _key.idx _key.version }
 {
     Refusal::Dead
 }
 
 // The slot of a key that is there.
-#[tactic(auto, unfolding(map::specs::Calls::slot, map::specs::Calls::slot_in))]
 pub fn slot(view: MapView, k: u64) -> Result<usize, Refusal>
     ensures { found_of result ≡ slot (seen_map view.entry) k }
 {
-    if !shape(view) {
-        return Err(Refusal::Shape);
-    }
+    let map = with_shape(view)?;
     let key = KeyData::from_ffi(k);
-    if !is_there(view, key) {
-        return Err(absent(view, key));
+    if !is_there(map, key) {
+        return Err(absent(map, key));
     }
     Ok(key.idx as usize)
 }

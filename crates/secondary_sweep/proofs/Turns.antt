@@ -6,12 +6,11 @@ use Prim.Native.Nat.{ℕ, zero, suc, ◌+◌, ◌-◌, ◌≤◌, ◌<◌}
 use native.Mathlib.Omega.{arith}
 use native.Mathlib.Decide.{ℕ_discrete, dec_lt}
 use lib.ListN.{length}
-use Rattle.refusal.specs.Refusals.{number_of}
 use Rattle.refusal.specs.declared.Refusal.{Refusal}
 use Rattle.map.specs.Map.{Map, ver, emptied}
 use Rattle.std.specs.Prelude.{Option, Some, None, Result, Ok, Err}
 use Rattle.secondary.specs.declared.Element.{Element}
-use Rattle.map.specs.Calls.{said_element, said_done, refused, Out, drain}
+use Rattle.map.specs.Calls.{said_element, Out, drain}
 use Rattle.secondary.specs.Answers.{step_of}
 use Rattle.map.specs.Whole.{Whole}
 use Rattle.map.specs.Sweeps.{sieved, retaining, clearing}
@@ -102,16 +101,15 @@ module _ (m₀ m u : Map) (p : ℕ) (h : Draining m₀ m p) where
 
 -- ---- what the arms of the match on a step's answer tell
 
+no_element : (a : Result (Option Element) Refusal) → ((x : Element) → a ≢ Ok (Some x)) → (k x q : ℕ) → step_of a ≢ said_element k x q
+no_element (Ok (Some y)) none k x q e = none y refl
+no_element (Ok None) none k x q e = cc
+no_element (Err r) none k x q e = cc
+
 module _ (m u : Map) (p : ℕ) (a : Result (Option Element) Refusal) (e : (step_of a, u) ≡ drain m p) where
   pub step-element : (x : Element) → a ≡ Ok (Some x) → drain m p ≡ (said_element x.key x.value x.next, u)
   step-element x h = sym e ∙ ap (λ (b : Result (Option Element) Refusal). (step_of b, u)) h
 
-  pub step-done : a ≡ Ok None → (k x q : ℕ) → (drain m p).0 ≢ said_element k x q
-  step-done h k x q f =
-      let g : said_done ≡ said_element k x q = ap step_of (sym h) ∙ ap (λ (o : Out). o.0) e ∙ f in
-      let z : ◌≡◌ {A = ℕ} 0 1 = cc in omega arith
-
-  pub step-refused : (r : Refusal) → a ≡ Err r → (k x q : ℕ) → (drain m p).0 ≢ said_element k x q
-  step-refused r h k x q f =
-      let g : refused (number_of r) ≡ said_element k x q = ap step_of (sym h) ∙ ap (λ (o : Out). o.0) e ∙ f in
-      let z : ◌≡◌ {A = ℕ} 0 1 = cc in omega arith
+  -- an answer that is no element took none
+  pub step-none : ((x : Element) → a ≢ Ok (Some x)) → (k x q : ℕ) → (drain m p).0 ≢ said_element k x q
+  step-none none k x q f = no_element a none k x q (ap (λ (o : Out). o.0) e ∙ f)

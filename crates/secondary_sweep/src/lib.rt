@@ -1,18 +1,33 @@
 // The secondary map's calls over all elements: retain and clear.
 #![tactic(auto)]
 
-ghost use Rattle.std.specs.Prelude.{◌≡◌, ◌<◌};
+ghost use Rattle.std.specs.Prelude.{◌≡◌, ◌<◌, true, MatchResult};
 ghost use Rattle.rules.specs.Rules.{keeps_of};
-ghost use Rattle.map.specs.Whole.{Whole};
-ghost use Rattle.map.specs.Sweeps.{sieved, retaining, retain, clearing, clear};
-ghost use Rattle.secondary.specs.Answers.{lent_map};
+ghost use Rattle.refusal.specs.Refusals.{number_of};
+ghost use Rattle.map.specs.Map.{Map, has_shape};
+ghost use Rattle.map.specs.Calls.{Out, refused};
+ghost use Rattle.map.specs.Whole.{Whole, is_whole};
+ghost use Rattle.map.specs.Sweeps.{asked, sieved, retaining, retain, clearing, clear};
+ghost use Rattle.secondary.specs.Answers.{lent_map, seen_map};
 ghost use Rattle.secondary_sweep.specs.Outcomes.{sweep_of};
 
 use keys::KeyData;
 use map::MapHeader;
 use refusal::{Changed, Refusal};
 use rules::Rule;
-use secondary::MapView;
+use secondary::{MapView, with_shape};
+use secondary_whole::is_whole;
+
+// Whether a map may be swept.
+fn asked(view: MapView) -> Result<(), Refusal>
+    ensures { MatchResult result (λ done. (has_shape (seen_map view.entry) ≡ true) × (is_whole (seen_map view.entry) ≡ true)) (λ why. (after : Map) → ◌≡◌ {A = Out} (refused (number_of why), seen_map view.entry) (asked (seen_map view.entry) after)) }
+{
+    let map = with_shape(view)?;
+    if !is_whole(map.view) {
+        return Err(Refusal::Damaged);
+    }
+    Ok(())
+}
 
 // ---- retain
 
@@ -59,16 +74,10 @@ pub fn retain(
         versions,
         values,
     };
-    if !secondary::shape(view) {
+    if let Err(r) = asked(view) {
         return Changed {
             header: h,
-            answer: Err(Refusal::Shape),
-        };
-    }
-    if !secondary_whole::is_whole(view) {
-        return Changed {
-            header: h,
-            answer: Err(Refusal::Damaged),
+            answer: Err(r),
         };
     }
     let g = sieve_all(h, versions, values, rule);
@@ -93,8 +102,7 @@ fn drain_all(h: MapHeader, versions: &mut [u32], values: &[u64]) -> MapHeader
                 g = d.header;
                 place = element.next;
             }
-            Ok(None) => return d.header,
-            Err(_) => return d.header,
+            Ok(None) | Err(_) => return d.header,
         }
     }
 }
@@ -108,16 +116,10 @@ pub fn clear(h: MapHeader, versions: &mut [u32], values: &[u64]) -> Changed<MapH
         versions,
         values,
     };
-    if !secondary::shape(view) {
+    if let Err(r) = asked(view) {
         return Changed {
             header: h,
-            answer: Err(Refusal::Shape),
-        };
-    }
-    if !secondary_whole::is_whole(view) {
-        return Changed {
-            header: h,
-            answer: Err(Refusal::Damaged),
+            answer: Err(r),
         };
     }
     let g = drain_all(h, versions, values);

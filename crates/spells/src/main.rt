@@ -7,7 +7,7 @@ use dense::{View, fresh};
 use image_read::rebuild;
 use image_write::write_image;
 use keys::KeyData;
-use lines::{first, line_at, line_end};
+use lines::{Piece, first, line_at, line_end};
 use made::{insert, remove};
 use refusal::Refusal;
 use table::Header;
@@ -56,7 +56,7 @@ fn imaged(h: Header, versions: &[u32], links: &[u32], keys: &[u64], values: &[u6
         },
         &mut image,
     ) {
-        Ok(end) => show_hexes(first(&image, end)),
+        Ok(end) => show(first(&image, end)),
         Err(why) => tell(Answer::refused(why)),
     }
 }
@@ -86,7 +86,7 @@ fn two(text: &[u8]) -> usize {
     imaged(left, &versions, &links, &keys, &values);
     let d = remark(text, c);
     told(insert(left, &mut versions, &mut links, &mut keys, &mut values, 9));
-    show_numbers(&keys);
+    show(&keys);
     d
 }
 
@@ -138,13 +138,7 @@ fn begun(answer: Result<Header, Refusal>) {
     tell(answers::started(answer));
 }
 
-fn show_hexes(list: &[u8]) {
-    let mut text = [0u8; 80];
-    let end = lines::row(list, 0, &mut text);
-    io::write_all(STDOUT_FILENO, first(&text, end));
-}
-
-fn show_numbers(list: &[u64]) {
+fn show<T: Piece>(list: &[T]) {
     let mut text = [0u8; 80];
     let end = lines::row(list, 0, &mut text);
     io::write_all(STDOUT_FILENO, first(&text, end));

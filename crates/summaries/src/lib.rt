@@ -54,22 +54,20 @@ impl Summary {
 fn note(summary: Summary, version: u32, presence: u32, wrong: u32) -> Summary
     ensures { result ≡ noted_as summary version presence wrong }
 {
-    let count = std::num::wrapping_add_u32(summary.count, 1);
+    let count = summary.count.wrapping_add(1);
     if summary.count == 0 {
         return Summary {
             count,
             version,
             presence,
-            live: summary.live,
-            wrong: summary.wrong,
+            ..summary
         };
     }
     Summary {
         count,
-        version: summary.version,
-        presence: summary.presence,
-        live: std::num::wrapping_add_u32(summary.live, presence),
-        wrong: std::num::wrapping_add_u32(summary.wrong, wrong),
+        live: summary.live.wrapping_add(presence),
+        wrong: summary.wrong.wrapping_add(wrong),
+        ..summary
     }
 }
 

@@ -1,8 +1,15 @@
--- `secondary_look::contains_key` meets its contract: the shape tells that the slots are within the arrays.
-use native.Mathlib.Omega.{arith}
-use Rattle.lists.proofs.Tests.{confirmed}
-use Rattle.map.proofs.Shaped.{shaped}
+-- `secondary_look::contains_key` meets its contract.
+use Rattle.std.proofs.lemmas.Result.{err_from_is_err_and}
+use Rattle.map.specs.Calls.{contains}
+use Rattle.secondary.proofs.Seen.{shape_of_view}
 use Rattle.secondary_look.proofs.contains_key.Goals as goal
 
-pub is_there-requires : goal.is_there-requires
-is_there-requires c = omega (arith, shaped _ (confirmed c.shape.ensures c.if-not-shape.false))
+pub returns-in_err-map : goal.returns-in_err-map
+unfolding contains
+returns-in_err-map c =
+    let p = err_from_is_err_and c.from_residual.result c.from_residual.ensures.1 in
+    rw (p.1, p.2) (simp (c.in_err-map.ensures.0, c.in_err-map.ensures.1))
+
+pub returns : goal.returns
+unfolding contains
+returns c = simp (shape_of_view c.in_ok-map.map c.in_ok-map.ensures, c.is_there.ensures, c.from_ffi.ensures, c.in_ok-map.ensures)

@@ -1,8 +1,26 @@
--- `secondary_look::slot` meets its contract: the shape tells that the slots are within the arrays.
-use native.Mathlib.Omega.{arith}
-use Rattle.lists.proofs.Tests.{confirmed}
-use Rattle.map.proofs.Shaped.{shaped}
+-- `secondary_look::slot` meets its contract.
+use Rattle.std.proofs.lemmas.Result.{err_from_is_err_and}
+use Rattle.lists.proofs.Tests.{refuted, confirmed}
+use mathlib.Core.Path.{refl, ap}
+use Rattle.map.specs.Calls.{slot, slot_in, fails}
+use Rattle.secondary.proofs.Seen.{shape_of_view}
 use Rattle.secondary_look.proofs.slot.Goals as goal
 
-pub is_there-requires : goal.is_there-requires
-is_there-requires c = omega (arith, shaped _ (confirmed c.shape.ensures c.if-not-shape.false))
+pub returns-in_err-map : goal.returns-in_err-map
+unfolding slot
+returns-in_err-map c =
+    let p = err_from_is_err_and c.from_residual.result c.from_residual.ensures.1 in
+    rw (p.1, p.2) (simp (c.in_err-map.ensures.0, c.in_err-map.ensures.1))
+
+pub returns-then-not-is_there : goal.returns-then-not-is_there
+unfolding slot slot_in
+returns-then-not-is_there c =
+    let e = refuted (rw c.from_ffi-key.ensures at c.is_there.ensures) c.if-not-is_there.true in
+    let a = rw c.from_ffi-key.ensures at c.absent.ensures in
+    rw (shape_of_view c.in_ok-map.map c.in_ok-map.ensures, ← c.in_ok-map.ensures, e) (ap fails a)
+
+pub returns : goal.returns
+unfolding slot slot_in
+returns c =
+    let e = confirmed (rw c.from_ffi-key.ensures at c.is_there.ensures) c.if-not-is_there.false in
+    rw (shape_of_view c.in_ok-map.map c.in_ok-map.ensures, ← c.in_ok-map.ensures, c.from_ffi-key.ensures, e) refl

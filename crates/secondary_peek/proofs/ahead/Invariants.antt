@@ -5,4 +5,4 @@ use Rattle.map.specs.Calls.{seek}
 use Rattle.secondary_peek.proofs.ahead.Given as goal
 
 abbrev pub invariant-loop-i : goal.invariant-loop-i
-invariant-loop-i l = seek l.view.versions.now (l.s - l.i) l.i ≡ seek l.view.versions.now (l.s - l.from) l.from
+invariant-loop-i l = seek l.versions (l.s - l.i) l.i ≡ seek l.versions (l.s - l.from) l.from

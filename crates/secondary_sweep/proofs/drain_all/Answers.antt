@@ -1,9 +1,11 @@
 -- `secondary_sweep::drain_all` meets its contract: each step goes on past vacant slots, so it is a step from the front.
 use Rattle.std.proofs.Common.{rules}
 use mathlib.Core.Path.{◌≡◌, ap}
-use Rattle.std.specs.Prelude.{Some, None, Ok}
+use mathlib.Core.Logic.{◌≢◌}
+use Rattle.secondary.specs.declared.Element.{Element}
+use Rattle.std.specs.Prelude.{Some, Ok}
 use Rattle.map.specs.Calls.{Out}
-use Rattle.secondary_sweep.proofs.Turns.{draining_start, draining_less, draining_turn, draining_ends, step-element, step-done, step-refused}
+use Rattle.secondary_sweep.proofs.Turns.{draining_start, draining_less, draining_turn, draining_ends, step-element, step-none}
 use Rattle.secondary_sweep.proofs.drain_all.Goals as goal
 
 pub loop-element-init : goal.loop-element-init
@@ -21,9 +23,5 @@ loop-element-preserved c =
 
 pub returns-in-Ok-None : goal.returns-in-Ok-None
 returns-in-Ok-None c =
-    let a : c.drain_step-d.result.answer ≡ Ok None = search rules in
-    draining_ends _ _ _ _ c.loop-element.invariant (step-done _ _ _ _ c.drain_step-d.ensures a) (ap (λ (o : Out). o.1) c.drain_step-d.ensures)
-
-pub returns-in-Err : goal.returns-in-Err
-returns-in-Err c =
-    draining_ends _ _ _ _ c.loop-element.invariant (step-refused _ _ _ _ c.drain_step-d.ensures _ c.in-Err.is) (ap (λ (o : Out). o.1) c.drain_step-d.ensures)
+    let none : (x : Element) → c.drain_step-d.result.answer ≢ Ok (Some x) = λ x h. search rules in
+    draining_ends _ _ _ _ c.loop-element.invariant (step-none _ _ _ _ c.drain_step-d.ensures none) (ap (λ (o : Out). o.1) c.drain_step-d.ensures)
