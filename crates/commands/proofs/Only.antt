@@ -1,62 +1,43 @@
 -- No second outcome of `parse`: two commands that ask for the same are one. Assumes nothing.
-use mathlib.Core.Path.{◌≡◌, ap}
+use Rattle.std.proofs.Common.{◌≡◌, refl, sym, ap, ◌∙◌, Result, Ok, Err}
 use Rattle.lists.proofs.Only.{only_read}
-use Rattle.std.specs.Prelude.{Result, Ok, Err}
 use Rattle.refusal.specs.declared.Refusal.{Refusal}
 use Rattle.refusal.proofs.Numbers.{number_one_to_one}
+use Rattle.table.specs.Steps.{c_lookup, c_insert, c_remove, c_detach, c_reattach}
 use Rattle.commands.specs.declared.Command.{Command}
 use Rattle.commands.specs.declared.Command.TheVariants.{Insert, Get, Remove, Detach, Reattach, Len}
-use Rattle.commands.specs.Lines.{Asked, asked_of}
+use Rattle.commands.specs.Lines.{Asked, asks, asked_of}
+
+-- the command that asks for this; what no command asks for gives the last
+abbrev command_of : Asked → Command
+command_of (asks (c_insert x)) = Insert x
+command_of (asks (c_lookup k)) = Get k
+command_of (asks (c_remove k)) = Remove k
+command_of (asks (c_detach k)) = Detach k
+command_of (asks (c_reattach k x)) = Reattach k x
+command_of _ = Len
+
+found_again : (c : Command) → command_of (asked_of (Ok c)) ≡ c
+found_again (Insert x) = refl
+found_again (Get k) = refl
+found_again (Remove k) = refl
+found_again (Detach k) = refl
+found_again (Reattach k x) = refl
+found_again Len = refl
+
+-- no command asks for a refusal
+no_refusal : (c : Command) (q : Refusal) → asked_of (Ok c) ≡ asked_of (Err q) → ◌≡◌ {A = Result Command Refusal} (Ok c) (Err q)
+no_refusal (Insert x) q e = cc
+no_refusal (Get k) q e = cc
+no_refusal (Remove k) q e = cc
+no_refusal (Detach k) q e = cc
+no_refusal (Reattach k x) q e = cc
+no_refusal Len q e = cc
 
 pub command_one_to_one : (c d : Result Command Refusal) → asked_of c ≡ asked_of d → c ≡ d
-command_one_to_one (Ok (Insert x)) (Ok (Insert y)) e = cc
-command_one_to_one (Ok (Insert x)) (Ok (Get l)) e = cc
-command_one_to_one (Ok (Insert x)) (Ok (Remove l)) e = cc
-command_one_to_one (Ok (Insert x)) (Ok (Detach l)) e = cc
-command_one_to_one (Ok (Insert x)) (Ok (Reattach l y)) e = cc
-command_one_to_one (Ok (Insert x)) (Ok Len) e = cc
-command_one_to_one (Ok (Insert x)) (Err q) e = cc
-command_one_to_one (Ok (Get k)) (Ok (Insert y)) e = cc
-command_one_to_one (Ok (Get k)) (Ok (Get l)) e = cc
-command_one_to_one (Ok (Get k)) (Ok (Remove l)) e = cc
-command_one_to_one (Ok (Get k)) (Ok (Detach l)) e = cc
-command_one_to_one (Ok (Get k)) (Ok (Reattach l y)) e = cc
-command_one_to_one (Ok (Get k)) (Ok Len) e = cc
-command_one_to_one (Ok (Get k)) (Err q) e = cc
-command_one_to_one (Ok (Remove k)) (Ok (Insert y)) e = cc
-command_one_to_one (Ok (Remove k)) (Ok (Get l)) e = cc
-command_one_to_one (Ok (Remove k)) (Ok (Remove l)) e = cc
-command_one_to_one (Ok (Remove k)) (Ok (Detach l)) e = cc
-command_one_to_one (Ok (Remove k)) (Ok (Reattach l y)) e = cc
-command_one_to_one (Ok (Remove k)) (Ok Len) e = cc
-command_one_to_one (Ok (Remove k)) (Err q) e = cc
-command_one_to_one (Ok (Detach k)) (Ok (Insert y)) e = cc
-command_one_to_one (Ok (Detach k)) (Ok (Get l)) e = cc
-command_one_to_one (Ok (Detach k)) (Ok (Remove l)) e = cc
-command_one_to_one (Ok (Detach k)) (Ok (Detach l)) e = cc
-command_one_to_one (Ok (Detach k)) (Ok (Reattach l y)) e = cc
-command_one_to_one (Ok (Detach k)) (Ok Len) e = cc
-command_one_to_one (Ok (Detach k)) (Err q) e = cc
-command_one_to_one (Ok (Reattach k x)) (Ok (Insert y)) e = cc
-command_one_to_one (Ok (Reattach k x)) (Ok (Get l)) e = cc
-command_one_to_one (Ok (Reattach k x)) (Ok (Remove l)) e = cc
-command_one_to_one (Ok (Reattach k x)) (Ok (Detach l)) e = cc
-command_one_to_one (Ok (Reattach k x)) (Ok (Reattach l y)) e = cc
-command_one_to_one (Ok (Reattach k x)) (Ok Len) e = cc
-command_one_to_one (Ok (Reattach k x)) (Err q) e = cc
-command_one_to_one (Ok Len) (Ok (Insert y)) e = cc
-command_one_to_one (Ok Len) (Ok (Get l)) e = cc
-command_one_to_one (Ok Len) (Ok (Remove l)) e = cc
-command_one_to_one (Ok Len) (Ok (Detach l)) e = cc
-command_one_to_one (Ok Len) (Ok (Reattach l y)) e = cc
-command_one_to_one (Ok Len) (Ok Len) e = cc
-command_one_to_one (Ok Len) (Err q) e = cc
-command_one_to_one (Err r) (Ok (Insert y)) e = cc
-command_one_to_one (Err r) (Ok (Get l)) e = cc
-command_one_to_one (Err r) (Ok (Remove l)) e = cc
-command_one_to_one (Err r) (Ok (Detach l)) e = cc
-command_one_to_one (Err r) (Ok (Reattach l y)) e = cc
-command_one_to_one (Err r) (Ok Len) e = cc
+command_one_to_one (Ok c) (Ok d) e = ap Ok (sym (found_again c) ∙ ap command_of e ∙ found_again d)
+command_one_to_one (Ok c) (Err q) e = no_refusal c q e
+command_one_to_one (Err r) (Ok d) e = sym (no_refusal d r (sym e))
 command_one_to_one (Err r) (Err q) e = ap Err (number_one_to_one r q (cc))
 
 pub parse_only : {a : Asked} {c d : Result Command Refusal} → asked_of c ≡ a → asked_of d ≡ a → c ≡ d
