@@ -62,37 +62,28 @@ fn close(
     }
 }
 
-// Takes one byte.
+// Takes one byte. The step is changed in place: a byte that is held moves no header.
 fn take_byte(
-    h: Header,
+    step: &mut Step,
     versions: &mut [u32],
     links: &mut [u32],
     keys: &mut [u64],
     values: &mut [u64],
-    count: usize,
     line: &mut [u8],
     b: u8,
-    at: usize,
     out: &mut [u8],
-) -> Step
-    requires { Ready count line.old at out.old }
-    ensures { (step_of result.end (machine (table versions.new links.new keys.new values.new result.header) result.count line.new out.new) ≡ took (machine (table versions.old links.old keys.old values.old h) count line.old out.old) at b) × (result.end ≤ at + room) }
+)
+    requires { Ready step.old.count line.old step.old.end out.old }
+    ensures { (step_of step.new.end (machine (table versions.new links.new keys.new values.new step.new.header) step.new.count line.new out.new) ≡ took (machine (table versions.old links.old keys.old values.old step.old.header) step.old.count line.old out.old) step.old.end b) × (step.new.end ≤ step.old.end + room) }
 {
+    let Step { header, count, end } = *step;
     if b == NEWLINE {
-        return close(h, versions, links, keys, values, count, line, at, out);
+        *step = close(header, versions, links, keys, values, count, line, end, out);
+        return;
     }
     if count < HELD {
         line[count] = b;
-        return Step {
-            header: h,
-            count: count + 1,
-            end: at,
-        };
-    }
-    Step {
-        header: h,
-        count,
-        end: at,
+        step.count = count + 1;
     }
 }
 
@@ -118,19 +109,18 @@ pub fn feed(
             end: Err(Refusal::Short),
         };
     }
-    let mut g = h;
-    let mut n = count;
-    let mut end = 0;
-    for b in part {
-        let step = take_byte(g, versions, links, keys, values, n, line, *b, end, out);
-        g = step.header;
-        n = step.count;
-        end = step.end;
+    let mut step = Step {
+        header: h,
+        count,
+        end: 0,
+    };
+    for i in 0..part.len() {
+        take_byte(&mut step, versions, links, keys, values, line, part[i], out);
     }
     Fed {
-        header: g,
-        count: n,
-        end: Ok(end),
+        header: step.header,
+        count: step.count,
+        end: Ok(step.end),
     }
 }
 

@@ -14,5 +14,5 @@ bounds-line-count c = omega (arith, c.if-count-lt-HELD.true, c.requires.long)
 pub returns-then-count-lt-HELD : goal.returns-then-count-lt-HELD
 returns-then-count-lt-HELD c = (took-held _ _ _ c.if-b-eq-NEWLINE.false c.if-count-lt-HELD.true, omega arith)
 
-pub returns : goal.returns
-returns c = (took_past _ _ _ c.if-b-eq-NEWLINE.false c.if-count-lt-HELD.false, omega arith)
+pub returns-else-count-lt-HELD : goal.returns-else-count-lt-HELD
+returns-else-count-lt-HELD c = (took_past _ _ _ c.if-b-eq-NEWLINE.false c.if-count-lt-HELD.false, omega arith)
