@@ -96,6 +96,15 @@ pub fn cell<T: Copy>(array: &mut [T], letter: u8, line: Line, x: T)
     }
 }
 
+// A cell of the two arrays of a map.
+pub fn cells_of_map(versions: &mut [u32], values: &mut [u64], line: Line)
+    ensures versions_after { versions.new ≡ cell 86 line (line.c % 4294967296) versions.old }
+    ensures values_after { values.new ≡ cell 88 line line.c values.old }
+{
+    cell(versions, b'V', line, narrow(line.c));
+    cell(values, b'X', line, line.c);
+}
+
 // A cell of the four arrays of a table.
 pub fn cells(
     versions: &mut [u32],
@@ -109,10 +118,9 @@ pub fn cells(
     ensures keys_after { keys.new ≡ cell 75 line line.c keys.old }
     ensures values_after { values.new ≡ cell 88 line line.c values.old }
 {
-    cell(versions, b'V', line, narrow(line.c));
+    cells_of_map(versions, values, line);
     cell(links, b'U', line, narrow(line.c));
     cell(keys, b'K', line, line.c);
-    cell(values, b'X', line, line.c);
 }
 
 // The header of a table after a line.

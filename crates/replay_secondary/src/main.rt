@@ -5,7 +5,7 @@ mod calls;
 
 use answers::Answer;
 use map::MapHeader;
-use replay::{least, narrow};
+use replay::least;
 use replay_bend::Lent;
 
 // The file descriptors of standard input and of standard output.
@@ -35,11 +35,10 @@ fn run(input: &[u8]) {
     let mut count = 0;
     let mut h = MapHeader { s: 0, count: 0 };
     let mut lent = Lent::none();
-    for text in input.split_inclusive(|b| *b == b'\n') {
+    for text in input.split_inclusive(lines::is_newline) {
         let line = replay_input::line_at(text, 0);
         lent = replay_bend::lend(lent, line);
-        replay_bend::cell(&mut versions, b'V', line, narrow(line.c));
-        replay_bend::cell(&mut values, b'X', line, line.c);
+        replay_bend::cells_of_map(&mut versions, &mut values, line);
         let a = least(lent.versions, ROOM);
         let v = least(lent.values, ROOM);
         let o = least(lent.output, PLACES);
