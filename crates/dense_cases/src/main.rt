@@ -25,7 +25,7 @@ fn run(input: &[u8]) {
     let mut values = [9u64; ROOM];
     let mut h = Header { n: 0, s: 0, f: 0 };
     let mut lent = Lent::none();
-    for text in input.split_inclusive(|b| *b == b'\n') {
+    for text in input.split_inclusive(lines::is_newline) {
         let line = replay_input::line_at(text, 0);
         if line.op == b'#' {
             io::write_all(STDOUT_FILENO, text);

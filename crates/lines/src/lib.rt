@@ -1,7 +1,7 @@
 // The lines of a text, and arrays as lines of numbers in a lent buffer.
 #![tactic(auto)]
 
-ghost use Rattle.std.specs.Prelude.{◌≡◌, take};
+ghost use Rattle.std.specs.Prelude.{◌≡◌, take, eqb};
 ghost use Rattle.lines.specs.Lines.{line_end, line_at};
 
 mod rows;
@@ -18,12 +18,19 @@ pub fn first(text: &[u8], end: usize) -> &[u8]
     &text[..end]
 }
 
+// Whether a byte ends a line.
+pub fn is_newline(byte: &u8) -> bool
+    ensures { result ≡ eqb byte.now 10 }
+{
+    *byte == b'\n'
+}
+
 // The end of the line that begins at a place, its newline before it; the text's end where no newline follows.
 pub fn line_end(text: &[u8], at: usize) -> usize
     ensures { result ≡ line_end text.now at }
 {
     for i in at..text.len() {
-        if text[i] == b'\n' {
+        if is_newline(&text[i]) {
             return i + 1;
         }
     }

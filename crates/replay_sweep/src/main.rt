@@ -37,7 +37,7 @@ fn run(input: &[u8]) {
     let mut count = 0;
     let mut h = Header { n: 0, s: 0, f: 0 };
     let mut lent = Lent::none();
-    for text in input.split_inclusive(|b| *b == b'\n') {
+    for text in input.split_inclusive(lines::is_newline) {
         let line = replay_input::line_at(text, 0);
         lent = replay_bend::lend(lent, line);
         replay_bend::cells(&mut versions, &mut links, &mut keys, &mut values, line);
