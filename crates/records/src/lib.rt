@@ -6,7 +6,7 @@ ghost use Rattle.writing.specs.Writing.{outcome, written};
 ghost use Rattle.records.specs.Records.{record_of, record_at, record_bytes};
 
 use numbers_read::{read_u32, read_u64};
-use numbers_write::{encoded_len, write_number};
+use numbers_write::{encoded_len, write_after, write_number};
 use refusal::Refusal;
 use writing::has_room;
 
@@ -75,13 +75,13 @@ pub fn write_record(slot: Record, at: usize, out: &mut [u8]) -> Result<usize, Re
     }
     match slot {
         Record::Vacant { version } => {
-            let presence = write_number(version as u64, at, out)?;
-            write_number(0, presence, out)
+            let first = write_number(version as u64, at, out);
+            write_after(first, 0, out)
         }
         Record::Occupied { version, value } => {
-            let presence = write_number(version as u64, at, out)?;
-            let last = write_number(1, presence, out)?;
-            write_number(value, last, out)
+            let first = write_number(version as u64, at, out);
+            let second = write_after(first, 1, out);
+            write_after(second, value, out)
         }
     }
 }

@@ -1,11 +1,9 @@
--- `write_record` meets its contract: the room is judged first, so that each number is written after the one before it. Where one is refused,
--- those after it are not written; which the laws below say too, since what is written after a refusal is that refusal.
+-- `write_record` meets its contract: the room is judged first, so that each number is written after the one before it.
 use Prim.Native.Nat.{ℕ, ◌+◌, ◌≤◌}
-use mathlib.Core.Path.{◌≡◌, refl, sym, ap, ◌∙◌}
+use mathlib.Core.Path.{◌≡◌, sym, ap, ◌∙◌}
 use mathlib.Core.List.{List, ◌++◌}
 use native.Mathlib.Omega.{arith}
 use lib.ListN.{length, length-append}
-use Rattle.std.proofs.lemmas.Result.{err_from_is_err_and}
 use Rattle.lists.proofs.Tests.{confirmed}
 use borrow.Author.Tests.{leb-true}
 use Rattle.writing.specs.Told.{Told}
@@ -32,32 +30,14 @@ module _ (at : ℕ) (b : List ℕ) (r : Record) (fits : at + length (record_byte
       written_then at (encoded v ++ encoded 1) (encoded x) b long (q ∙ written_then at (encoded v) (encoded 1) b (omega (arith, length-append (encoded v ++ encoded 1) (encoded x))) p)
       ∙ ap (λ (y : Record). written at (record_bytes y) b) (sym e)
 
-pub returns-in_err-presence-in-Vacant : goal.returns-in_err-presence-in-Vacant
-returns-in_err-presence-in-Vacant c =
+pub returns-in-Vacant : goal.returns-in-Vacant
+returns-in-Vacant c =
     let a = c.args in
-    let p = err_from_is_err_and c.from_residual.result c.from_residual.ensures.1 in
-    rw (p.1, p.2) (two a.at a.out.now a.slot (omega (arith, leb-true _ _ (confirmed c.has_room.ensures c.if-not-has_room.false))) _ c.in-Vacant.is c.in_err-presence-in-Vacant.ensures)
+    c.write_after.ensures
+    ∙ two a.at a.out.now a.slot (omega (arith, leb-true _ _ (confirmed c.has_room.ensures c.if-not-has_room.false))) _ c.in-Vacant.is c.write_number-first.ensures
 
-pub returns-in_ok-presence-in-Vacant : goal.returns-in_ok-presence-in-Vacant
-returns-in_ok-presence-in-Vacant c =
+pub returns-in-Occupied : goal.returns-in-Occupied
+returns-in-Occupied c =
     let a = c.args in
-    c.write_number-in-Vacant.ensures
-    ∙ two a.at a.out.now a.slot (omega (arith, leb-true _ _ (confirmed c.has_room.ensures c.if-not-has_room.false))) _ c.in-Vacant.is c.in_ok-presence-in-Vacant.ensures
-
-pub returns-in_err-presence-in-Occupied : goal.returns-in_err-presence-in-Occupied
-returns-in_err-presence-in-Occupied c =
-    let a = c.args in
-    let p = err_from_is_err_and c.from_residual-in_err-presence-in-Occupied.result c.from_residual-in_err-presence-in-Occupied.ensures.1 in
-    rw (p.1, p.2) (three a.at a.out.now a.slot (omega (arith, leb-true _ _ (confirmed c.has_room.ensures c.if-not-has_room.false))) _ _ c.in-Occupied.is c.in_err-presence-in-Occupied.ensures refl)
-
-pub returns-in_err-last-in-Occupied : goal.returns-in_err-last-in-Occupied
-returns-in_err-last-in-Occupied c =
-    let a = c.args in
-    let p = err_from_is_err_and c.from_residual-in_err-last-in-Occupied.result c.from_residual-in_err-last-in-Occupied.ensures.1 in
-    rw (p.1, p.2) (three a.at a.out.now a.slot (omega (arith, leb-true _ _ (confirmed c.has_room.ensures c.if-not-has_room.false))) _ _ c.in-Occupied.is c.in_ok-presence-in-Occupied.ensures c.in_err-last-in-Occupied.ensures)
-
-pub returns-in_ok-last-in-Occupied : goal.returns-in_ok-last-in-Occupied
-returns-in_ok-last-in-Occupied c =
-    let a = c.args in
-    c.write_number-in-Occupied-3.ensures
-    ∙ three a.at a.out.now a.slot (omega (arith, leb-true _ _ (confirmed c.has_room.ensures c.if-not-has_room.false))) _ _ c.in-Occupied.is c.in_ok-presence-in-Occupied.ensures c.in_ok-last-in-Occupied.ensures
+    c.write_after-in-Occupied.ensures
+    ∙ three a.at a.out.now a.slot (omega (arith, leb-true _ _ (confirmed c.has_room.ensures c.if-not-has_room.false))) _ _ c.in-Occupied.is c.write_number-first-in-Occupied.ensures c.write_after-second.ensures
