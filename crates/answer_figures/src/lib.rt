@@ -9,9 +9,7 @@ ghost use Rattle.pieces.specs.Pieces.{page, wrote_all, space};
 ghost use Rattle.answer_figures.specs.Figures.{header_text, map_header_text, figures};
 
 use answers::Answer;
-use map::MapHeader;
 use pieces::{key, labelled, number};
-use table::Header;
 
 fn pair(a: u64, b: u64, at: usize, out: &mut [u8]) -> usize
     ensures { page result out.new ≡ wrote_all (page at out.old) (decimal a ∷ space ∷ decimal b ∷ []) }
@@ -29,19 +27,19 @@ fn element(k: u64, value: u64, next: u64, at: usize, out: &mut [u8]) -> usize
     labelled(b" ", next, m, out)
 }
 
-fn header(h: Header, at: usize, out: &mut [u8]) -> usize
-    ensures { page result out.new ≡ wrote_all (page at out.old) (header_text h) }
+fn header(n: u64, s: u64, f: u64, at: usize, out: &mut [u8]) -> usize
+    ensures { page result out.new ≡ wrote_all (page at out.old) (header_text n s f) }
 {
-    let i = labelled(b"n=", u64::from(h.n), at, out);
-    let j = labelled(b" s=", u64::from(h.s), i, out);
-    labelled(b" f=", u64::from(h.f), j, out)
+    let i = labelled(b"n=", n, at, out);
+    let j = labelled(b" s=", s, i, out);
+    labelled(b" f=", f, j, out)
 }
 
-fn map_header(h: MapHeader, at: usize, out: &mut [u8]) -> usize
-    ensures { page result out.new ≡ wrote_all (page at out.old) (map_header_text h) }
+fn map_header(s: u64, count: u64, at: usize, out: &mut [u8]) -> usize
+    ensures { page result out.new ≡ wrote_all (page at out.old) (map_header_text s count) }
 {
-    let i = labelled(b"s=", u64::from(h.s), at, out);
-    labelled(b" count=", u64::from(h.count), i, out)
+    let i = labelled(b"s=", s, at, out);
+    labelled(b" count=", count, i, out)
 }
 
 // An answer of such a kind; any other is told by its number, or by 0 where it has none.
@@ -49,7 +47,7 @@ pub fn told(answer: Answer, at: usize, out: &mut [u8]) -> usize
     ensures { page result out.new ≡ wrote_all (page at out.old) (figures answer) }
 {
     match answer {
-        Answer::Refused(why) => labelled(b"refused ", u64::from(why), at, out),
+        Answer::Refused(why) => labelled(b"refused ", why, at, out),
         Answer::Number(x) | Answer::Digest(x) => number(x, at, out),
         Answer::Written(n) => number(n as u64, at, out),
         Answer::Key(k) => key(k, at, out),
@@ -59,10 +57,10 @@ pub fn told(answer: Answer, at: usize, out: &mut [u8]) -> usize
             key: k,
             value,
             next,
-        } => element(k, value, u64::from(next), at, out),
+        } => element(k, value, next, at, out),
         Answer::Replaced(x) => labelled(b"replaced ", x, at, out),
-        Answer::Header(h) => header(h, at, out),
-        Answer::MapHeader(h) => map_header(h, at, out),
+        Answer::Header { n, s, f } => header(n, s, f, at, out),
+        Answer::MapHeader { s, count } => map_header(s, count, at, out),
         Answer::Places(count) => number(count as u64, at, out),
         Answer::Truth(yes) => number(u64::from(yes), at, out),
         _ => number(0, at, out),

@@ -46,8 +46,8 @@ Fits64 (kinds.Digest d) = d < 2 ^ 64
 Fits64 (kinds.Counts a b) = (a < 2 ^ 64) × (b < 2 ^ 64)
 Fits64 (kinds.Written m) = m < 2 ^ 64
 Fits64 (kinds.Replaced x) = x < 2 ^ 64
-Fits64 (kinds.Header h) = (h.n < 2 ^ 64) × ((h.s < 2 ^ 64) × (h.f < 2 ^ 64))
-Fits64 (kinds.MapHeader h) = (h.s < 2 ^ 64) × (h.count < 2 ^ 64)
+Fits64 (kinds.Header n s f) = (n < 2 ^ 64) × ((s < 2 ^ 64) × (f < 2 ^ 64))
+Fits64 (kinds.MapHeader s count) = (s < 2 ^ 64) × (count < 2 ^ 64)
 Fits64 _ = Unit {0}
 
 text_short : (x : Answer) → Fits64 x → Short (text_of x)
@@ -68,8 +68,8 @@ text_short kinds.Stored h = omega arith
 text_short kinds.Ended h = omega arith
 text_short (kinds.Truth true) h = omega arith
 text_short (kinds.Truth false) h = omega arith
-text_short (kinds.Header g) h = omega (arith, length-decimal_64 g.n h.0, length-decimal_64 g.s h.1.0, length-decimal_64 g.f h.1.1)
-text_short (kinds.MapHeader g) h = omega (arith, length-decimal_64 g.s h.0, length-decimal_64 g.count h.1)
+text_short (kinds.Header n s f) h = omega (arith, length-decimal_64 n h.0, length-decimal_64 s h.1.0, length-decimal_64 f h.1.1)
+text_short (kinds.MapHeader s count) h = omega (arith, length-decimal_64 s h.0, length-decimal_64 count h.1)
 
 module _ (x : Answer) (h : Fits64 x) where
   pub line_short : length (joined (line_of x)) ≤ 69

@@ -6,7 +6,7 @@ ghost use Rattle.refusal.specs.Refusals.{number_of};
 ghost use Rattle.dense.specs.Answers.{value_said, issued_said, count_said, truth_said, done_said, judged_of, begun_of};
 ghost use Rattle.dense_drain.specs.Answers.{pair_said};
 ghost use Rattle.answers.specs.declared.Answer.TheVariants.{Done, Ended, Places, Refused};
-ghost use Rattle.answers.specs.Listed.{listed, listed_place, listed_header};
+ghost use Rattle.answers.specs.Listed.{listed, listed_place, listed_header, headed, map_headed};
 
 use dense_drain::Drained;
 use map::MapHeader;
@@ -18,13 +18,13 @@ pub enum Answer {
     // The call is done, and has nothing to tell.
     Done,
     // The refusal's number.
-    Refused(u32),
+    Refused(u64),
     // A value, a count, a place or a length.
     Number(u64),
     Key(u64),
     Pair { key: u64, value: u64 },
     // An element, and the place to go on from.
-    Step { key: u64, value: u64, next: u32 },
+    Step { key: u64, value: u64, next: u64 },
     // How many places stand in the output.
     Places(usize),
     Digest(u64),
@@ -41,9 +41,9 @@ pub enum Answer {
     Ended,
     Truth(bool),
     // The header of a table.
-    Header(Header),
+    Header { n: u64, s: u64, f: u64 },
     // The header of a secondary map.
-    MapHeader(MapHeader),
+    MapHeader { s: u64, count: u64 },
 }
 
 // A call that was made: the header after it, and its answer.
@@ -57,7 +57,26 @@ impl Answer {
     pub fn refused(why: Refusal) -> Answer
         ensures { result ≡ Refused (number_of why) }
     {
-        Answer::Refused(why.number())
+        Answer::Refused(u64::from(why.number()))
+    }
+
+    pub fn header(h: Header) -> Answer
+        ensures { result ≡ headed h }
+    {
+        Answer::Header {
+            n: u64::from(h.n),
+            s: u64::from(h.s),
+            f: u64::from(h.f),
+        }
+    }
+
+    pub fn map_header(h: MapHeader) -> Answer
+        ensures { result ≡ map_headed h }
+    {
+        Answer::MapHeader {
+            s: u64::from(h.s),
+            count: u64::from(h.count),
+        }
     }
 }
 
@@ -119,5 +138,5 @@ pub fn drained(step: Result<Option<Drained>, Refusal>) -> Answer
 pub fn started(start: Result<Header, Refusal>) -> Answer
     ensures { result ≡ listed_header (begun_of start) }
 {
-    start.map_or_else(Answer::refused, Answer::Header)
+    start.map_or_else(Answer::refused, Answer::header)
 }

@@ -85,7 +85,7 @@ fn found(answer: Result<u64, Refusal>) {
 fn opened(answer: Result<u64, Refusal>) -> Result<u64, Refusal> {
     let key = answer?;
     say(b"opened ");
-    tell(Answer::Key(key));
+    tell(answers::issued(answer));
     Ok(key)
 }
 

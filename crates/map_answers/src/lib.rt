@@ -18,7 +18,7 @@ use secondary_enter::Inserted;
 pub fn started(start: Result<MapHeader, Refusal>) -> Answer
     ensures { result ≡ listed_header (begun_of start) }
 {
-    start.map_or_else(Answer::refused, Answer::MapHeader)
+    start.map_or_else(Answer::refused, Answer::map_header)
 }
 
 pub fn value(got: Result<u64, Refusal>) -> Answer
@@ -60,7 +60,7 @@ pub fn stepped(step: Result<Option<Element>, Refusal>) -> Answer
         ) => Answer::Step {
             key,
             value: x,
-            next,
+            next: u64::from(next),
         },
         Ok(None) => Answer::Ended,
         Err(why) => Answer::refused(why),

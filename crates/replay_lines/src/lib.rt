@@ -36,7 +36,7 @@ fn write_text(answer: Answer, out: &mut [u8]) -> usize
     ensures { page result out.new ≡ wrote_all (page 0 out.old) (text_of answer) }
 {
     match answer {
-        Answer::Refused(why) => pieces::labelled(b"-", why as u64, 0, out),
+        Answer::Refused(why) => pieces::labelled(b"-", why, 0, out),
         Answer::Number(x) | Answer::Replaced(x) => pieces::number(x, 0, out),
         Answer::Truth(yes) => pieces::number(yes as u64, 0, out),
         Answer::Digest(d) => replay_hex::write_hex64(d, 0, out),
@@ -45,7 +45,7 @@ fn write_text(answer: Answer, out: &mut [u8]) -> usize
         Answer::Pair { key, value } => write_pair(key, value, 0, out),
         Answer::Step { key, value, next } => {
             let n = write_pair(key, value, 0, out);
-            pieces::labelled(b" ", next as u64, n, out)
+            pieces::labelled(b" ", next, n, out)
         }
         Answer::Kept => pieces::bytes(b"k", 0, out),
         Answer::Ignored => pieces::bytes(b"i", 0, out),

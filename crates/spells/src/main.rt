@@ -98,7 +98,7 @@ fn threads() {
     let bytes = [0x03u8, 0x00, 0x00, 0x02, 0x00, 0x04, 0x00];
     match rebuild(&mut versions, &mut links, &mut keys, &mut values, &bytes) {
         Ok(h) => {
-            tell(Answer::Header(h));
+            tell(Answer::header(h));
             let made = insert(h, &mut versions, &mut links, &mut keys, &mut values, 7);
             tell(made.answer);
         }

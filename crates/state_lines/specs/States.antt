@@ -4,7 +4,7 @@ use Rattle.text.specs.Text.{decimal}
 use Rattle.lines.specs.Lines.{row}
 use Rattle.table.specs.Table.{Table}
 use Rattle.map.specs.Map.{Map}
-use Rattle.answers.specs.declared.Answer.TheVariants as kinds
+use Rattle.answers.specs.Listed.{headed, map_headed}
 use Rattle.answer_lines.specs.Answers.{line_of}
 
 -- the names, letter by letter
@@ -27,10 +27,10 @@ values_text = 118 ∷ 97 ∷ 108 ∷ 117 ∷ 101 ∷ 115 ∷ []
 
 abbrev pub state_lines : Table → List (List ℕ)
 state_lines t =
-    line_of (kinds.Header t.head)
+    line_of (headed t.head)
     ++ ((versions_text ∷ row decimal t.versions)
     ++ ((links_text ∷ row decimal t.links) ++ ((keys_text ∷ row decimal t.keys) ++ (values_text ∷ row decimal t.values))))
 
 abbrev pub map_state_lines : Map → List (List ℕ)
 map_state_lines m =
-    line_of (kinds.MapHeader m.head) ++ ((versions_text ∷ row decimal m.versions) ++ (values_text ∷ row decimal m.values))
+    line_of (map_headed m.head) ++ ((versions_text ∷ row decimal m.versions) ++ (values_text ∷ row decimal m.values))

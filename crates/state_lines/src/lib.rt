@@ -17,7 +17,7 @@ use secondary::MapView;
 pub fn state(view: View, at: usize, out: &mut [u8]) -> usize
     ensures { page result out.new ≡ wrote_all (page at out.old) (state_lines (seen view.entry)) }
 {
-    let a = line(Answer::Header(view.h), at, out);
+    let a = line(Answer::header(view.h), at, out);
     let b = named_row(b"versions", view.versions, a, out);
     let c = named_row(b"links", view.links, b, out);
     let d = named_row(b"keys", view.keys, c, out);
@@ -28,7 +28,7 @@ pub fn state(view: View, at: usize, out: &mut [u8]) -> usize
 pub fn map_state(view: MapView, at: usize, out: &mut [u8]) -> usize
     ensures { page result out.new ≡ wrote_all (page at out.old) (map_state_lines (seen_map view.entry)) }
 {
-    let a = line(Answer::MapHeader(view.h), at, out);
+    let a = line(Answer::map_header(view.h), at, out);
     let b = named_row(b"versions", view.versions, a, out);
     named_row(b"values", view.values, b, out)
 }
