@@ -24,6 +24,7 @@ pub fn mark(versions: &mut [u32], k: u64)
 }
 
 // The same for each key of a list.
+#[tactic(auto, using(crate::proofs::Turns::marks_turn, crate::proofs::Turns::marks_end))]
 pub fn mark_all(versions: &mut [u32], wanted: &[u64])
     ensures { versions.new ≡ marked versions.old wanted.now }
 {
